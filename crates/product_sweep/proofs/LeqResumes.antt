@@ -29,7 +29,7 @@ use Rattle.product_sweep.specs.declared.leq.LeqPhase.TheVariants.{Making, Answer
 use Rattle.product_sweep.specs.Implications.{Implication, refutation, Refutes, turns_left, IsReady, IsInStep, IsToBeMade}
 use Rattle.product_sweep.specs.LeqPhases.{IsPhaseOf}
 use Rattle.product_sweep.specs.LeqSaving.{product_saving, StandsFor, Carried}
-use Rattle.product_sweep.specs.Products.{MakesTable}
+use Rattle.product_sweep.specs.Products.{rule_of, begins_of, MakesTable}
 use Rattle.product_sweep.proofs.Turning.{product_accounts, leq, made_decides}
 
 -- what the product's sweep leaves and costs that is saved
@@ -43,8 +43,8 @@ pub record ProductCarried {S : Type 0} (tells : S → Bool) (world : S → World
       → MakesTable q (world after) job)
   pub left : OnOk result (IsTrue (tells after) → (job : TableWork) → MakesTable p (world before) job
       → turns_of (sweep_of q) (world after) job ≤ turns_of (sweep_of p) (world before) job)
-  pub trusts : OnOk result (IsTrue (tells after) → calls.IsTrusted (sweep_of p) (world before)
-      → calls.IsTrusted (sweep_of q) (world after))
+  pub trusts : OnOk result (IsTrue (tells after) → calls.IsTrusted rule_of begins_of (sweep_of p) (world before)
+      → calls.IsTrusted rule_of begins_of (sweep_of q) (world after))
   pub head : SameHead blank point
   pub filled : OnOk result (IsFilled (product_accounts.next q) point)
   pub names : OnOk result (product_saving.names point (sweeps.task_of (sweep_of p)))
@@ -56,11 +56,11 @@ pub record ProductCarried {S : Type 0} (tells : S → Bool) (world : S → World
       (product_saving.operands (sweeps.task_of (sweep_of p))) (world after) f n)
   pub still : OnOk result ((later : World) → ((f : FileNo) → IsUsed (product_accounts.makes p)
       (product_saving.operands (sweeps.task_of (sweep_of p))) point f → file later f ≡ file (world after) f)
-      → IsStill (calls.IsInStep (sweep_of q)) (calls.IsTrusted (sweep_of q)) (MakesTable q)
+      → IsStill (calls.IsInStep (sweep_of q)) (calls.IsTrusted rule_of begins_of (sweep_of q)) (MakesTable q)
       (λ w job. turns_of (sweep_of q) w job) (world after) later)
   pub leaves : Carries tells world counts product_accounts 65536 4608 before after p q result
-  pub damaged : IfErr result (λ e. IsTrue (tells after) → calls.IsTrusted (sweep_of p) (world before)
-      → damage.IsDamage (sweep_of q) (world after) e)
+  pub damaged : IfErr result (λ e. IsTrue (tells after) → calls.IsTrusted rule_of begins_of (sweep_of p) (world before)
+      → damage.IsDamage rule_of begins_of (sweep_of q) (world after) e)
   pub undamaged : IfErr result (λ e. IsTrue (tells after) → (job : TableWork) → MakesTable p (world before) job
       → IsNoDamage e)
   pub spent : IsErrOf result RunsSpent → 2 ^ 32 ≤ product_accounts.next q

@@ -52,10 +52,10 @@ pub record ProductTurned {S : Type 0} (tells : S → Bool) (world : S → World)
       → MakesTable q (world after) job)
   pub fewer : IsTrue (tells after) → (job : TableWork) → MakesTable p (world before) job
       → MovesOn 1 (turns_of (sweep_of p) (world before) job) (turns_of (sweep_of q) (world after) job) result
-  pub trusts : OnOk result (IsTrue (tells after) → calls.IsTrusted (sweep_of p) (world before)
-      → calls.IsTrusted (sweep_of q) (world after))
-  pub damaged : IfErr result (λ e. IsTrue (tells after) → calls.IsTrusted (sweep_of p) (world before)
-      → damage.IsDamage (sweep_of q) (world after) e)
+  pub trusts : OnOk result (IsTrue (tells after) → calls.IsTrusted rule_of begins_of (sweep_of p) (world before)
+      → calls.IsTrusted rule_of begins_of (sweep_of q) (world after))
+  pub damaged : IfErr result (λ e. IsTrue (tells after) → calls.IsTrusted rule_of begins_of (sweep_of p) (world before)
+      → damage.IsDamage rule_of begins_of (sweep_of q) (world after) e)
   pub undamaged : IfErr result (λ e. IsTrue (tells after) → (job : TableWork) → MakesTable p (world before) job
       → IsNoDamage e)
   pub leaves : Leaves tells world counts product_accounts 224 12 before after p q result
@@ -87,7 +87,7 @@ pub unmade_works : (p : TableSweep Product) → sweeps.made_in (sweep_of p) ≡ 
 unmade_works p none = works_at (sweep_of p).machine.place.phase _ none
 
 -- no file is said to be damaged
-no_damage : (s : TopDownSweep Product) (world : World) (e : SortFault) → IsNoDamage e → damage.IsDamage s world e
+no_damage : (s : TopDownSweep Product) (world : World) (e : SortFault) → IsNoDamage e → damage.IsDamage rule_of begins_of s world e
 no_damage s world Shelf none = tt
 no_damage s world (Damaged f at) none = absurd none
 no_damage s world RunsSpent none = tt

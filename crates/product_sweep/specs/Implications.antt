@@ -25,7 +25,7 @@ use Rattle.top_down_sweep.specs.Sweeps as sweeps
 use Rattle.product_sweep.specs.declared.leq.LeqPhase.{LeqPhase}
 use Rattle.product_sweep.specs.declared.leq.LeqPhase.TheVariants.{Making, Answered}
 use Rattle.product_sweep.specs.declared.leq.LeqSweep.{LeqSweep}
-use Rattle.product_sweep.specs.Products.{MakesTable}
+use Rattle.product_sweep.specs.Products.{rule_of, begins_of, MakesTable}
 
 -- two tables of n variables, of which the left one may imply the right one everywhere
 pub record Implication : Type 0 where
@@ -101,7 +101,7 @@ IsInStep s world = IsInStepAt s.phase s world
 
 -- what its turns put stands in them, while arcs are made
 abbrev pub IsTrustedAt : LeqPhase → LeqSweep → World → Type 0
-IsTrustedAt Making s world = calls.IsTrusted (product_in s) world
+IsTrustedAt Making s world = calls.IsTrusted rule_of begins_of (product_in s) world
 IsTrustedAt (Answered b) s world = Unit
 
 abbrev pub IsTrusted : LeqSweep → World → Type 0
@@ -123,7 +123,7 @@ Refutes s world d = RefutesAt s.phase s world d
 
 -- damage is that of an operand
 abbrev pub IsDamageAt : LeqPhase → LeqSweep → World → SortFault → Type 0
-IsDamageAt Making s world e = damage.IsDamage (product_in s) world e
+IsDamageAt Making s world e = damage.IsDamage rule_of begins_of (product_in s) world e
 IsDamageAt (Answered b) s world e = ⊥
 
 abbrev pub IsDamage : LeqSweep → World → SortFault → Type 0

@@ -32,6 +32,7 @@ impl<'r> LeqSweep<'r> {
     ghost use Rattle.sweep_core.specs.Accounts.{CanBeTaken};
     ghost use Rattle.sweep_core.specs.Sweeps.{IsNoDamage};
     ghost use Rattle.top_down_sweep.specs.Beginning.{after_two, files_from, Begun, Starts};
+    ghost use Rattle.product_sweep.specs.Products.{rule_of, begins_of};
     ghost use Rattle.top_down_sweep.specs.Sweeps.{parts_of, variables_of};
     ghost use Rattle.node_file.specs.Canonical.{IsCanonicalFile};
     ghost use Rattle.table_work.specs.Tables.{operand_files};
@@ -52,7 +53,7 @@ impl<'r> LeqSweep<'r> {
         ensures ready { IfOk result IsReady }
         ensures in_step { IfOk result (λ s. IsTrue (S.tells shelf.new) → IsInStep s (S.world shelf.new)) }
         ensures trusts { IfOk result (λ s. IsTrue (S.tells shelf.new) → IsTrusted s (S.world shelf.new)) }
-        ensures begun { IfOk result (λ s. Begun S.tells S.world (files_from (operand_files f g g) parts)
+        ensures begun { IfOk result (λ s. Begun rule_of begins_of S.tells S.world (files_from (operand_files f g g) parts)
             (after_two parts) shelf.old shelf.new (product_in s)) }
         ensures variables { IfOk result (λ s. variables_of (product_in s) ≡ n) }
         ensures leaves { Starts S.tells S.world S.faults n (files_from (operand_files f g g) parts) parts

@@ -54,7 +54,7 @@ pub record MakesSoon {O : Type 0} (rule : O → Rule) (begins : O → Tuple → 
 pub record StartsTable {S O : Type 0} (rule : O → Rule) (begins : O → Tuple → Tuple) (tells : S → Bool)
     (world : S → World) (counts : S → Faults) (operation : StepOperation) (n : ℕ) (operands : OperandFiles) (parts : Parts) (before after : S)
     (result : Result (TableSweep O) SortFault) : Type 0 where
-  pub begun : IfOk result (λ s. Begun tells world (files_from operands parts) (after_two parts) before after
+  pub begun : IfOk result (λ s. Begun rule begins tells world (files_from operands parts) (after_two parts) before after
       (sweep_of s))
   pub variables : IfOk result (λ s. variables_of (sweep_of s) ≡ n)
   pub leaves : Starts tells world counts n (files_from operands parts) parts before after result

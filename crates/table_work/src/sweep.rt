@@ -91,7 +91,7 @@ impl<'r, O: Operation> Sweep<'r> for TableSweep<'r, O> {
 
     ghost accounts = { accounts_along sweep_of (accounts O) };
 
-    ghost damaged = { λ s world e. IsDamage (sweep_of s) world e };
+    ghost damaged = { λ s world e. IsDamage O.rule O.begins (sweep_of s) world e };
 
     ghost Task = { SweepTask };
 
@@ -103,7 +103,7 @@ impl<'r, O: Operation> Sweep<'r> for TableSweep<'r, O> {
 
     ghost in_step = { λ s world. IsInStep (sweep_of s) world };
 
-    ghost trusts = { λ s world. IsTrusted (sweep_of s) world };
+    ghost trusts = { λ s world. IsTrusted O.rule O.begins (sweep_of s) world };
 
     ghost trusted = { λ s world job remains. sweep_trusted O.rule O.begins (sweep_of s) world
         remains.makes.task remains.makes.remains };

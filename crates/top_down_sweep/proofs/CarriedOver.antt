@@ -24,6 +24,9 @@ use Rattle.top_down_sweep.specs.declared.saved.SavedMachine.{SavedMachine}
 use Rattle.top_down_sweep.specs.declared.start.Files.{Files}
 use Rattle.top_down_sweep.specs.declared.sweep.TopDownSweep.{TopDownSweep}
 use Rattle.top_down_sweep.specs.Calls.{SameTask, IsInStep, IsTrusted}
+use Rattle.top_down_sweep.specs.Knowing.{bytes_in}
+use Rattle.top_down_sweep.specs.Waiting.{AreApart}
+use Rattle.top_down_sweep.proofs.Known.{saved_bytes}
 use Rattle.top_down_sweep.specs.Freezing.{KeepsAll, Saves, HasSettled, HasTables}
 use Rattle.top_down_sweep.specs.Fuel.{weight, machine_fuel}
 use Rattle.top_down_sweep.specs.Meaning.{Task, IsTaskOn, Remains}
@@ -68,6 +71,8 @@ pub record IsCarried {S O : Type 0} (o : Ghosts O) (tells : S → Bool) (world :
   pub keeps : KeepsAll tells world s t p.machine q
   pub parts_step : q.parts.step ≡ p.machine.parts.step
   pub later : p.machine.parts.next ≤ q.parts.next
+  pub bytes : IsTrue (tells t) → AreApart (files_in p.machine) p.machine.parts.step
+      → bytes_in q (world t) ≡ bytes_in p.machine (world s)
   pub on_files : IsTrue (tells t) → (t' : Task) (rule : Rule) (begins : Tuple → Tuple)
       → IsTaskOn t' rule begins p.machine.place.variables (files_in p.machine) p.machine.parts.step (world s)
       → IsTaskOn t' rule begins q.place.variables (files_in q) q.parts.step (world t)
@@ -100,6 +105,8 @@ carried_of o tells world counts calls parts s t p q result made tables c sound w
       keeps = keeps;
       parts_step = saves.carries.step_is;
       later = saves.carries.later;
+      bytes = λ told. saved_bytes tells world counts calls parts s t p.machine q result sound saves.same saves.carries
+          told;
       on_files = λ told t' rule begins is. saved_on tells world counts calls parts s t p.machine q result t' rule begins
           sound saves.same saves.carries told is;
       settled = settled;
@@ -119,22 +126,26 @@ module _ {S O : Type 0} (o : Ghosts O) (tells : S → Bool) (world : S → World
   r = record p { machine = q }
 
   -- what its turns put stands there still, and what remained of a job remains
-  pub carried_trusts : IsTrue (tells t) → IsTrusted p (world s) → IsTrusted r (world t)
-  carried_trusts told trusts = trusts_same p.machine q is.but (world s) (world t)
-      (lists_of tells world s t p.machine q is.keeps told) is.works trusts
+  pub carried_trusts : IsTrue (tells t) → (rule : O → Rule) (begins : O → Tuple → Tuple)
+      → IsTrusted rule begins p (world s) → IsTrusted rule begins r (world t)
+  carried_trusts told rule begins trusts = trusts_same p.machine q is.but (world s) (world t)
+      (lists_of tells world s t p.machine q
+      is.same.files_are is.parts_step (is.bytes told) is.keeps told) is.works (rule p.operation) (begins p.operation) trusts
 
   pub carried_keeps : IsTrue (tells t) → (rule : O → Rule) (begins : O → Tuple → Tuple) (t' : Task)
       → Remains rule begins p (world s) t' → Remains rule begins r (world t) t'
   carried_keeps told rule begins t' remains = record {
     on_files = is.on_files told t' (rule p.operation) (begins p.operation) remains.on_files;
-    left = remains_same p.machine q is.but (world s) (world t) (lists_of tells world s t p.machine q is.keeps told)
+    left = remains_same p.machine q is.but (world s) (world t) (lists_of tells world s t p.machine q
+        is.same.files_are is.parts_step (is.bytes told) is.keeps told)
         is.works t' (begins p.operation) remains.left;
   }
 
   pub carried_left : IsTrue (tells t) → (rule : O → Rule) (begins : O → Tuple → Tuple) (w : Work)
       → Remains rule begins p (world s) w.task → left_of r (world t) w ≤ left_of p (world s) w
   carried_left told rule begins w remains =
-      let same = left_same p.machine q is.but (world s) (world t) (lists_of tells world s t p.machine q is.keeps told)
+      let same = left_same p.machine q is.but (world s) (world t) (lists_of tells world s t p.machine q
+      is.same.files_are is.parts_step (is.bytes told) is.keeps told)
       is.works w.task (begins p.operation) (length w.tuples) remains.left in
       omega (arith, same)
 
@@ -235,11 +246,11 @@ module _ {S O : Type 0} (o : Ghosts O) (tells : S → Bool) (world : S → World
     lists : KeepsLists q q (world t) later
     lists = lists_still q is.keeps.fit.sound (world t) later read_used made_used runs_used
 
-    pub carried_still : (rule : O → Rule) (begins : O → Tuple → Tuple) → IsStill (IsInStep r) (IsTrusted r)
+    pub carried_still : (rule : O → Rule) (begins : O → Tuple → Tuple) → IsStill (IsInStep r) (IsTrusted rule begins r)
         (λ world' (w : Work). Remains rule begins r world' w.task) (left_of r) (world t) later
     carried_still rule begins = record {
       steps = steps_still q is.keeps.fit.sound (world t) later read_used made_used runs_used;
-      trusted = trusts_same q q but_still (world t) later lists works_now;
+      trusted = trusts_same q q but_still (world t) later lists works_now (rule p.operation) (begins p.operation);
       keeps = λ w remains. record {
         on_files = on_files_still q is.keeps.fit.sound (world t) later read_used made_used runs_used w.task
             (rule p.operation) (begins p.operation) q.place.variables q.parts.step remains.on_files;

@@ -22,6 +22,8 @@ use Rattle.level_queue.specs.declared.queue.LevelQueue.{LevelQueue}
 use Rattle.level_queue.specs.Queues as queues
 use Rattle.sweep_core.specs.Accounts.{CanBeTaken, OnlyOwn}
 use Rattle.sweep_core.proofs.Leaving.{own_stays, leaves_then, leaves_more, leaves_ok, leaves_err}
+use Rattle.top_down.specs.declared.tuple.Tuple.{Tuple}
+use Rattle.top_down.specs.Rules.{Rule}
 use Rattle.top_down_sweep.specs.declared.machine.Machine.{Machine}
 use Rattle.top_down_sweep.specs.declared.ask.Ask.{Ask}
 use Rattle.top_down_sweep.specs.declared.place.Place.{Place}
@@ -55,10 +57,11 @@ on_ok (Ok x) p = p
 on_ok (Err e) p = tt
 
 -- no damage is said
-pub no_damage : (q : Machine) (world : World) (e : SortFault) → IsNoDamage e → IsMachineDamage q world e
-no_damage q world Shelf none = tt
-no_damage q world (Damaged f at) none = absurd none
-no_damage q world RunsSpent none = tt
+pub no_damage : (rule : Rule) (begins : Tuple → Tuple) (q : Machine) (world : World) (e : SortFault) → IsNoDamage e
+    → IsMachineDamage rule begins q world e
+no_damage rule begins q world Shelf none = tt
+no_damage rule begins q world (Damaged f at) none = absurd none
+no_damage rule begins q world RunsSpent none = tt
 
 -- the files whose parts were taken aren't those that are made
 own_took : (inner ends : FileNo) (before after : Parts) (old m : Moment)

@@ -10,7 +10,7 @@ use Rattle.std.proofs.lemmas.Cmp.{ranked, then_total, on_total, nat_cmp_total}
 use Rattle.std.proofs.lemmas.List.MinMax.{ranks_by}
 use Rattle.std.proofs.lemmas.List.Elements.{All-tail, All-cons}
 use Rattle.std.proofs.lemmas.List.Sorted.{All-permutation}
-use Rattle.rec_words.specs.Words.{level_of}
+use Rattle.rec_words.specs.Words.{level_of, IsNodeWord}
 use Rattle.rec_words.specs.declared.node.Node.{Node}
 use Rattle.shelf_model.specs.declared.file_no.FileNo.{FileNo}
 use Rattle.shelf_model.specs.declared.sort_fault.SortFault.{SortFault}
@@ -44,7 +44,10 @@ use Rattle.top_down_sweep.specs.declared.machine.Machine.{Machine}
 use Rattle.top_down_sweep.specs.declared.start.Files.{Files}
 use Rattle.top_down_sweep.specs.Items.{ask_words, IsAsk, member_cmp, members_cmp, ask_cmp}
 use Rattle.top_down_sweep.specs.Sweeps.{files_in, IsMade, IsServed, IsOperand, AreOperands, IsTakenTo}
-use Rattle.top_down_sweep.specs.Waiting.{Waits, IsReadTo, AreReadTo, Fits, IsApart, AreApart, AreReading, HasNoHands, Holds, HoldsSome, HoldsFirst}
+use Rattle.top_down_sweep.specs.Waiting.{Waits, IsReadTo, AreReadTo, Fits, IsApart, AreApart, AreReading, HasNoHands, AreBytesOf, KnowsAsk, Holds, HoldsSome, HoldsFirst}
+use Rattle.top_down.specs.declared.tuple.Tuple.{Tuple}
+use Rattle.top_down.specs.Rules.{Rule}
+use Rattle.top_down_sweep.specs.Knowing.{FileBytes, bytes_in, KnowsMembers, KnowsBelow, KnowsHands, StaysKnown}
 use Rattle.top_down_sweep.specs.Members.{is_node}
 use Rattle.top_down_sweep.specs.Damage.{IsReadDamage, IsMachineDamage}
 use Rattle.top_down_sweep.specs.Calls.{KeepsAsks}
@@ -99,12 +102,12 @@ operands_still m old new are same apart reading = record {
 }
 
 -- arcs were put
-pub holds_written : (n : ℕ) (m q : Machine) (old new : World) (asks : List Ask)
+pub holds_written : (bytes : Option FileBytes) (n : ℕ) (m q : Machine) (old new : World) (asks : List Ask)
     → q ≡ record m { place = record m.place { has_one = q.place.has_one }; writer = q.writer } → files_in q ≡ files_in m
     → AreOperands m.place.variables m.operands
-    → WroteBoth n (inner_file m.writer) (ends_file m.writer) old new → Holds m old asks
-    → Holds q new asks
-holds_written n m q old new asks rest files are wrote hold =
+    → WroteBoth n (inner_file m.writer) (ends_file m.writer) old new → Holds bytes m old asks
+    → Holds bytes q new asks
+holds_written bytes n m q old new asks rest files are wrote hold =
     let same :
     files_in (record m { place = record m.place { has_one = q.place.has_one }; writer = q.writer }) ≡ files_in m =
     ap files_in (sym rest) ∙ files in
@@ -114,9 +117,11 @@ holds_written n m q old new asks rest files are wrote hold =
     → (file new f).bytes ≡ (file old f).bytes =
     λ f run. ap (λ (x : File). x.bytes) (during.others f (λ is. hold.no_run f (inl is) run)
     (λ is. hold.no_run f (inr is) run)) in
-    subst (λ (p : Machine). Holds p new asks) (sym rest) (record {
+    subst (λ (p : Machine). Holds bytes p new asks) (sym rest) (record {
       wait = queue_kept IsAsk ask_words ask_cmp m.queue old new asks unwritten hold.wait;
       fit = hold.fit;
+      known = hold.known;
+      hands = hold.hands;
       no_run = λ f made. hold.no_run f (subst (λ fs. IsMade fs f) same made);
       reading = λ apart. (let before : AreApart (files_in m) m.parts.step =
           subst (λ fs. AreApart fs m.parts.step) same apart in
@@ -125,14 +130,16 @@ holds_written n m q old new asks rest files are wrote hold =
     })
 
 -- another place is known
-pub holds_placed : (m q : Machine) (place : Place) (world : World) → q ≡ record m { place = place }
-    → HoldsSome m world → HoldsSome q world
-holds_placed m q place world rest (asks, hold) =
-    subst (λ (p : Machine). HoldsSome p world) (sym rest) (
+pub holds_placed : (bytes : Option FileBytes) (m q : Machine) (place : Place) (world : World)
+    → q ≡ record m { place = place } → HoldsSome bytes m world → HoldsSome bytes q world
+holds_placed bytes m q place world rest (asks, hold) =
+    subst (λ (p : Machine). HoldsSome bytes p world) (sym rest) (
       asks,
       record {
         wait = hold.wait;
         fit = hold.fit;
+        known = hold.known;
+        hands = hold.hands;
         no_run = hold.no_run;
         reading = hold.reading;
       },
@@ -185,64 +192,74 @@ module _ (m : Machine) (q : LevelQueue Ask) (after : Parts) (old new : World) (s
     (spilled : Spilled m.parts after old new) (took : Took m.parts after)
     (runs : (f : FileNo) → queues.IsRunOf q f
     → queues.IsRunOf m.queue f ⊎ IsTaken m.parts after f) where
-  still_read : (asks : List Ask) → Holds m old asks
+  still_read : (bytes : Option FileBytes) (asks : List Ask) → Holds bytes m old asks
       → AreApart (files_in m) after.step → AreReading m.operands new
-  still_read asks hold apart =
+  still_read bytes asks hold apart =
       let before : AreApart (files_in m) m.parts.step = subst (AreApart (files_in m)) took.step_is
       apart in
       operands_still m old new are (apart_spilled m after old new (serves_past m.parts m.queue served.serves) spilled)
       before (hold.reading before)
 
   -- the first ask was taken
-  pub holds_taken : (found : Option Ask) (asks : List Ask) → Gives (Waits q new) asks (Ok found)
-      → Holds m old asks → HoldsSome (record m { queue = q; parts = after }) new
-  holds_taken None asks given hold = (
+  pub holds_taken : (bytes : Option FileBytes) (found : Option Ask) (asks : List Ask)
+      → Gives (Waits q new) asks (Ok found) → Holds bytes m old asks
+      → HoldsSome bytes (record m { queue = q; parts = after }) new
+  holds_taken bytes None asks given hold = (
     [],
     record {
       wait = subst (Waits q new) given.0 given.1;
       fit = λ k d within. absurd (omega (arith, within));
+      known = λ k d within. absurd (omega (arith, within));
+      hands = hold.hands;
       no_run = runs_apart m q after served runs hold.no_run;
-      reading = still_read asks hold;
+      reading = still_read bytes asks hold;
     },
   )
-  holds_taken (Some a) asks given hold = (
+  holds_taken bytes (Some a) asks given hold = (
     given.0,
     record {
       wait = given.2;
       fit = All-tail (Fits m.operands) a given.0 (subst (All (Fits m.operands)) given.1 hold.fit);
+      known = All-tail (KnowsAsk bytes) a given.0 (subst (All (KnowsAsk bytes)) given.1 hold.known);
+      hands = hold.hands;
       no_run = runs_apart m q after served runs hold.no_run;
-      reading = still_read asks hold;
+      reading = still_read bytes asks hold;
     },
   )
 
   -- an ask was put
-  pub holds_put : (a : Ask) (result : Result Unit SortFault) (asks : List Ask)
-      → Joins (Waits q new) a asks result → Fits m.operands a → Holds m old asks
-      → OnOk result (HoldsSome (record m { queue = q; parts = after }) new)
-  holds_put a (Err e) asks joined fits hold = tt
-  holds_put a (Ok u) asks joined fits hold = (
+  pub holds_put : (bytes : Option FileBytes) (a : Ask) (result : Result Unit SortFault) (asks : List Ask)
+      → Joins (Waits q new) a asks result → Fits m.operands a → KnowsAsk bytes a → Holds bytes m old asks
+      → OnOk result (HoldsSome bytes (record m { queue = q; parts = after }) new)
+  holds_put bytes a (Err e) asks joined fits knows hold = tt
+  holds_put bytes a (Ok u) asks joined fits knows hold = (
     joined.0,
     record {
       wait = joined.2;
       fit = All-permutation (Fits m.operands) (a ∷ asks) joined.0 joined.1
           (All-cons (Fits m.operands) a asks fits hold.fit);
+      known = All-permutation (KnowsAsk bytes) (a ∷ asks) joined.0 joined.1
+          (All-cons (KnowsAsk bytes) a asks knows hold.known);
+      hands = hold.hands;
       no_run = runs_apart m q after served runs hold.no_run;
-      reading = still_read asks hold;
+      reading = still_read bytes asks hold;
     },
   )
 
 -- the first ask is shown
-pub holds_shown : (m : Machine) (q : LevelQueue Ask) (old new : World) (found : Option Ask)
+pub holds_shown : (bytes : Option FileBytes) (m : Machine) (q : LevelQueue Ask) (old new : World) (found : Option Ask)
     (asks : List Ask) → AreOperands m.place.variables m.operands
     → Shows (Waits q new) asks (Ok found) → Ran (Stays (now old)) old new
-    → ((f : FileNo) → queues.IsRunOf q f → queues.IsRunOf m.queue f) → Holds m old asks
-    → IfSome found (λ a. HoldsFirst a (record m { queue = q }) new)
-holds_shown m q old new None asks are shown ran runs hold = tt
-holds_shown m q old new (Some a) asks are shown ran runs hold = (
+    → ((f : FileNo) → queues.IsRunOf q f → queues.IsRunOf m.queue f) → Holds bytes m old asks
+    → IfSome found (λ a. HoldsFirst bytes a (record m { queue = q }) new)
+holds_shown bytes m q old new None asks are shown ran runs hold = tt
+holds_shown bytes m q old new (Some a) asks are shown ran runs hold = (
   shown.0,
   record {
     wait = subst (Waits q new) shown.1 shown.2;
     fit = subst (All (Fits m.operands)) shown.1 hold.fit;
+    known = subst (All (KnowsAsk bytes)) shown.1 hold.known;
+    hands = hold.hands;
     no_run = λ f made run. hold.no_run f made (runs f run);
     reading = λ apart. operands_still m old new are (λ f _. looked_same old new ran f) apart
         (hold.reading apart);
@@ -302,13 +319,15 @@ read_to o k l later read = by o.hand read
     by (Some x) read = omega (arith, read, later)
 
 -- a node was read that the first ask wants
-pub holds_read : (m : Machine) (o : Operands) (old new : World) (a : Ask)
+pub holds_read : (bytes : Option FileBytes) (m : Machine) (o : Operands) (old new : World) (a : Ask)
     → files_in (record m { operands = o }) ≡ files_in m → IsReadTo a.key o.first
     → IsReadTo a.key o.second → IsReadTo a.key o.third
     → Ran (Stays (now old)) old new → (AreApart (files_in m) m.parts.step
     → AreReading m.operands old → AreReading o new)
-    → HoldsFirst a m old → HoldsSome (record m { operands = o }) new
-holds_read m o old new a files first second third ran on (rest, hold) =
+    → (IfSome bytes (λ b. KnowsHands b m.operands) → (AreApart (files_in m) m.parts.step → AreReading m.operands old)
+    → IfSome bytes (λ b. KnowsHands b o))
+    → HoldsFirst bytes a m old → HoldsSome bytes (record m { operands = o }) new
+holds_read bytes m o old new a files first second third ran on hands (rest, hold) =
     let keys = keys_from a rest hold.wait.sorter.ascends in (
       a ∷ rest,
       record {
@@ -319,6 +338,8 @@ holds_read m o old new a files first second third ran on (rest, hold) =
           second = read_to o.second a.key _ (keys k d within) second;
           third = read_to o.third a.key _ (keys k d within) third;
         };
+        known = hold.known;
+        hands = hands hold.hands hold.reading;
         no_run = λ f made. hold.no_run f (subst (λ fs. IsMade fs f) files made);
         reading = λ apart. (let before : AreApart (files_in m) m.parts.step =
             subst (λ fs. AreApart fs m.parts.step) files apart in on before (hold.reading before));
@@ -326,13 +347,37 @@ holds_read m o old new a files first second third ran on (rest, hold) =
     )
 
 -- the first ask that waits fits
-pub first_fits : (a : Ask) (m : Machine) (world : World) → HoldsFirst a m world
+pub first_fits : (bytes : Option FileBytes) (a : Ask) (m : Machine) (world : World) → HoldsFirst bytes a m world
     → Fits m.operands a
-first_fits a m world (rest, hold) = hold.fit 0 a (omega arith)
+first_fits bytes a m world (rest, hold) = hold.fit 0 a (omega arith)
 
-pub first_holds : (a : Ask) (m : Machine) (world : World) → HoldsFirst a m world
-    → HoldsSome m world
-first_holds a m world (rest, hold) = (a ∷ rest, hold)
+-- and names what the files know
+pub first_knows : (bytes : Option FileBytes) (a : Ask) (m : Machine) (world : World) → HoldsFirst bytes a m world
+    → KnowsAsk bytes a
+first_knows bytes a m world (rest, hold) = hold.known 0 a (omega arith)
+
+pub first_hands : (bytes : Option FileBytes) (a : Ask) (m : Machine) (world : World) → HoldsFirst bytes a m world
+    → IfSome bytes (λ b. KnowsHands b m.operands)
+first_hands bytes a m world (rest, hold) = hold.hands
+
+pub first_holds : (bytes : Option FileBytes) (a : Ask) (m : Machine) (world : World) → HoldsFirst bytes a m world
+    → HoldsSome bytes m world
+first_holds bytes a m world (rest, hold) = (a ∷ rest, hold)
+
+-- whatever the files know of it
+pub first_forgets : (bytes : Option FileBytes) (a : Ask) (m : Machine) (world : World) → HoldsFirst bytes a m world
+    → HoldsFirst None a m world
+first_forgets bytes a m world (rest, hold) = (
+  rest,
+  record {
+    wait = hold.wait;
+    fit = hold.fit;
+    known = λ k d within. tt;
+    hands = tt;
+    no_run = hold.no_run;
+    reading = hold.reading;
+  },
+)
 
 -- what follows of each refusal
 pub if_err_map : {A : Type 0} {P Q : SortFault → Type 0} (result : Result A SortFault)
@@ -353,12 +398,12 @@ module _ {S : Type 0} (tells : S → Bool) (world : S → World) where
       → (IsTrue (tells t) → (asks : List Ask) → Waits m.queue (world s) asks
       → Shows (Waits q (world t)) asks result)
       → ((f : FileNo) → queues.IsRunOf q f → queues.IsRunOf m.queue f)
-      → IfOk result (λ found. IfSome found (λ a. IsTrue (tells t) → HoldsSome m (world s)
-      → HoldsFirst a (record m { queue = q }) (world t)))
+      → IfOk result (λ found. IfSome found (λ a. IsTrue (tells t) → (bytes : Option FileBytes)
+      → HoldsSome bytes m (world s) → HoldsFirst bytes a (record m { queue = q }) (world t)))
   shown_at s t m q (Ok None) are did list runs = tt
-  shown_at s t m q (Ok (Some a)) are did list runs = λ told holds.
+  shown_at s t m q (Ok (Some a)) are did list runs = λ told bytes holds.
       let (asks, hold) = holds in
-      holds_shown m q (world s) (world t) (Some a) asks are (list told asks hold.wait)
+      holds_shown bytes m q (world s) (world t) (Some a) asks are (list told asks hold.wait)
       (did.did told) runs hold
   shown_at s t m q (Err e) are did list runs = tt
 
@@ -369,10 +414,11 @@ module _ {S : Type 0} (tells : S → Bool) (world : S → World) where
       → ((f : FileNo) → queues.IsRunOf q f → queues.IsRunOf m.queue f ⊎ IsTaken m.parts after f)
       → (IsTrue (tells t) → (asks : List Ask) → Waits m.queue (world s) asks
       → Gives (Waits q (world t)) asks (Ok found))
-      → IsTrue (tells t) → KeepsAsks m (world s) (record m { queue = q; parts = after }) (world t)
-  taken_at s t m q after found served are did took runs list told holds =
+      → IsTrue (tells t) → (bytes : Option FileBytes)
+      → KeepsAsks bytes m (world s) (record m { queue = q; parts = after }) (world t)
+  taken_at s t m q after found served are did took runs list told bytes holds =
       let (asks, hold) = holds in
-      holds_taken m q after (world s) (world t) served are (did.did told) took runs found asks
+      holds_taken m q after (world s) (world t) served are (did.did told) took runs bytes found asks
       (list told asks hold.wait) hold
 
   -- an ask was put
@@ -382,23 +428,23 @@ module _ {S : Type 0} (tells : S → Bool) (world : S → World) where
       → ((f : FileNo) → queues.IsRunOf q f → queues.IsRunOf m.queue f ⊎ IsTaken m.parts after f)
       → (IsTrue (tells t) → (asks : List Ask) → Waits m.queue (world s) asks
       → Joins (Waits q (world t)) a asks result)
-      → OnOk result (IsTrue (tells t) → Fits m.operands a
-      → KeepsAsks m (world s) (record m { queue = q; parts = after }) (world t))
+      → OnOk result (IsTrue (tells t) → Fits m.operands a → (bytes : Option FileBytes) → KnowsAsk bytes a
+      → KeepsAsks bytes m (world s) (record m { queue = q; parts = after }) (world t))
   put_at s t m q after a (Err e) served are did took runs list = tt
-  put_at s t m q after a (Ok u) served are did took runs list = λ told fits holds.
+  put_at s t m q after a (Ok u) served are did took runs list = λ told fits bytes knows holds.
       let (asks, hold) = holds in
-      holds_put m q after (world s) (world t) served are (did.did told) took runs a (Ok u) asks
-      (list told asks hold.wait) fits hold
+      holds_put m q after (world s) (world t) served are (did.did told) took runs bytes a (Ok u) asks
+      (list told asks hold.wait) fits knows hold
 
   -- an arc was put
   pub written_at : (n : ℕ) (s t : S) (m q : Machine)
       → q ≡ record m { place = record m.place { has_one = q.place.has_one }; writer = q.writer }
       → files_in q ≡ files_in m → AreOperands m.place.variables m.operands
       → Told tells s t (WroteBoth n (inner_file m.writer) (ends_file m.writer) (world s) (world t))
-      → IsTrue (tells t) → KeepsAsks m (world s) q (world t)
-  written_at n s t m q rest files are did told holds =
+      → IsTrue (tells t) → (bytes : Option FileBytes) → KeepsAsks bytes m (world s) q (world t)
+  written_at n s t m q rest files are did told bytes holds =
       let (asks, hold) = holds in
-      (asks, holds_written n m q (world s) (world t) asks rest files are (did.did told) hold)
+      (asks, holds_written bytes n m q (world s) (world t) asks rest files are (did.did told) hold)
 
 -- an ask that is put again fits
 pub again_fits : (m q : Machine) (a b : Ask) → q ≡ record m { queue = q.queue; parts = q.parts }
@@ -452,6 +498,14 @@ fresh_fits o b none = record {
     by : (x : Operand) → x.hand ≡ None → IsReadTo b.key x
     by x is = subst (λ hand. IfSome hand (λ n. n.uid ≤ b.key)) (sym is) tt
 
+-- the key of the first of them is a node
+pub first_node : (bytes : Option FileBytes) (a : Ask) (m : Machine) (world : World) → HoldsFirst bytes a m world
+    → IsNodeWord a.key
+first_node bytes a m world first =
+    let values : All IsAsk (a ∷ first.0) = first.1.wait.sorter.values in
+    let is : IsAsk a = values 0 a (omega arith) in
+    is.form.key_is
+
 -- the files stay where one operand's stays
 
 pub first_files : (m : Machine) (x : Operand) → x.file ≡ m.operands.first.file
@@ -464,39 +518,56 @@ first_files m x same i = record {
   ends = ends_file m.writer;
 }
 
+-- what they hold stays where nothing is written
+pub first_bytes : (m : Machine) (x : Operand) (old new : World) → x.file ≡ m.operands.first.file
+    → Ran (Stays (now old)) old new
+    → bytes_in (record m { operands = record m.operands { first = x } }) new ≡ bytes_in m old
+first_bytes m x old new same ran i = record {
+  first = (ap (λ f. (file new f).bytes) same ∙ looked_same old new ran m.operands.first.file) i;
+  second = looked_same old new ran m.operands.second.file i;
+  third = looked_same old new ran m.operands.third.file i;
+}
+
 -- the first operand was refused
-pub first_damage : (m : Machine) (x : Operand) (a : Ask) (world : World) (e : SortFault)
-    → x.file ≡ m.operands.first.file → queues.shown m.queue ≡ Some a
+pub first_damage : (rule : Rule) (begins : Tuple → Tuple) (m : Machine) (x : Operand) (a : Ask) (world : World)
+    (e : SortFault)
+    → x.file ≡ m.operands.first.file → IsNodeWord a.key → queues.shown m.queue ≡ Some a
     → is_node a.key a.members.first ≡ true → (AreApart (files_in m) m.parts.step
     → IsReadDamage m.place.variables m.operands.first.file a.key world e)
-    → IsMachineDamage (record m { operands = record m.operands { first = x } }) world e
-first_damage m x a world Shelf same shown asked damage = tt
-first_damage m x a world (Damaged f at) same shown asked damage = λ apart.
+    → (AreApart (files_in m) m.parts.step
+    → StaysKnown rule begins (bytes_in (record m { operands = record m.operands { first = x } }) world)
+    → KnowsMembers (bytes_in (record m { operands = record m.operands { first = x } }) world) a.members)
+    → IsMachineDamage rule begins (record m { operands = record m.operands { first = x } }) world e
+first_damage rule begins m x a world Shelf same node shown asked damage knows = tt
+first_damage rule begins m x a world (Damaged f at) same node shown asked damage knows = λ apart.
     let before : AreApart (files_in m) m.parts.step = subst (λ fs. AreApart fs m.parts.step)
     (first_files m x same) apart in
     record {
       ask = a;
+      node = node;
       shown_is = shown;
+      known = knows before;
       damaged = inl (
         asked,
         subst (λ g. IsReadDamage m.place.variables g a.key world (Damaged f at))
             (sym same) (damage before),
       );
     }
-first_damage m x a world RunsSpent same shown asked damage = tt
+first_damage rule begins m x a world RunsSpent same node shown asked damage knows = tt
 
 -- the first operand's next node was read
 pub first_read : (told : Type 0) (m : Machine) (x : Operand) (a : Ask)
     (result : Result Unit SortFault) (old new : World) → AreOperands m.place.variables m.operands
     → x.file ≡ m.operands.first.file
     → OnOk result (IsReadTo a.key x) → (told → IsReading m.operands.first.reader old
-    → OnOk result (IsReading x.reader new)) → (told → Ran (Stays (now old)) old new)
-    → OnOk result (told → HoldsFirst a m old
-    → HoldsSome (record m { operands = record m.operands { first = x } }) new)
-first_read told m x a (Err e) old new are same to reads ran = tt
-first_read told m x a (Ok u) old new are same to reads ran = λ is first.
-    let fits = first_fits a m old first in
-    holds_read m (record m.operands { first = x }) old new a (first_files m x same) to fits.second
+    → OnOk result (IsReading x.reader new)) → (told → IsReading m.operands.first.reader old
+    → OnOk result (KnowsBelow (file old m.operands.first.file).bytes x.hand)) → (told → Ran (Stays (now old)) old new)
+    → OnOk result (told → (bytes : Option FileBytes) → AreBytesOf bytes m old → HoldsFirst bytes a m old
+    → HoldsSome bytes (record m { operands = record m.operands { first = x } }) new)
+first_read told m x a (Err e) old new are same to reads below ran = tt
+first_read told m x a (Ok u) old new are same to reads below ran = λ is bytes of first.
+    let fits = first_fits bytes a m old first in
+    holds_read bytes m (record m.operands { first = x }) old new a (first_files m x same) to fits.second
     fits.third (ran is)
     (λ apart reading. record {
       first = reads is reading.first;
@@ -504,7 +575,16 @@ first_read told m x a (Ok u) old new are same to reads ran = λ is first.
           (looked_same old new (ran is) m.operands.second.file) reading.second;
       third = operand_still _ m.operands.third old new are.third
           (looked_same old new (ran is) m.operands.third.file) reading.third;
-    }) first
+    }) (hands_on is bytes of) first
+  where
+    hands_on : told → (bs : Option FileBytes) → AreBytesOf bs m old → IfSome bs (λ b. KnowsHands b m.operands)
+        → (AreApart (files_in m) m.parts.step → AreReading m.operands old)
+        → IfSome bs (λ b. KnowsHands b (record m.operands { first = x }))
+    hands_on is None of hands reading = tt
+    hands_on is (Some b) (same_bytes, apart) hands reading =
+        let knows : KnowsBelow b.first x.hand = subst (λ (v : FileBytes). KnowsBelow v.first x.hand) (sym same_bytes)
+        (below is (reading apart).first) in
+        record { first = knows; second = hands.second; third = hands.third }
 
 pub second_files : (m : Machine) (x : Operand) → x.file ≡ m.operands.second.file
     → files_in (record m { operands = record m.operands { second = x } }) ≡ files_in m
@@ -516,39 +596,56 @@ second_files m x same i = record {
   ends = ends_file m.writer;
 }
 
+-- what they hold stays where nothing is written
+pub second_bytes : (m : Machine) (x : Operand) (old new : World) → x.file ≡ m.operands.second.file
+    → Ran (Stays (now old)) old new
+    → bytes_in (record m { operands = record m.operands { second = x } }) new ≡ bytes_in m old
+second_bytes m x old new same ran i = record {
+  first = looked_same old new ran m.operands.first.file i;
+  second = (ap (λ f. (file new f).bytes) same ∙ looked_same old new ran m.operands.second.file) i;
+  third = looked_same old new ran m.operands.third.file i;
+}
+
 -- the second operand was refused
-pub second_damage : (m : Machine) (x : Operand) (a : Ask) (world : World) (e : SortFault)
-    → x.file ≡ m.operands.second.file → queues.shown m.queue ≡ Some a
+pub second_damage : (rule : Rule) (begins : Tuple → Tuple) (m : Machine) (x : Operand) (a : Ask) (world : World)
+    (e : SortFault)
+    → x.file ≡ m.operands.second.file → IsNodeWord a.key → queues.shown m.queue ≡ Some a
     → is_node a.key a.members.second ≡ true → (AreApart (files_in m) m.parts.step
     → IsReadDamage m.place.variables m.operands.second.file a.key world e)
-    → IsMachineDamage (record m { operands = record m.operands { second = x } }) world e
-second_damage m x a world Shelf same shown asked damage = tt
-second_damage m x a world (Damaged f at) same shown asked damage = λ apart.
+    → (AreApart (files_in m) m.parts.step
+    → StaysKnown rule begins (bytes_in (record m { operands = record m.operands { second = x } }) world)
+    → KnowsMembers (bytes_in (record m { operands = record m.operands { second = x } }) world) a.members)
+    → IsMachineDamage rule begins (record m { operands = record m.operands { second = x } }) world e
+second_damage rule begins m x a world Shelf same node shown asked damage knows = tt
+second_damage rule begins m x a world (Damaged f at) same node shown asked damage knows = λ apart.
     let before : AreApart (files_in m) m.parts.step = subst (λ fs. AreApart fs m.parts.step)
     (second_files m x same) apart in
     record {
       ask = a;
+      node = node;
       shown_is = shown;
+      known = knows before;
       damaged = inr (inl (
         asked,
         subst (λ g. IsReadDamage m.place.variables g a.key world
             (Damaged f at)) (sym same) (damage before),
       ));
     }
-second_damage m x a world RunsSpent same shown asked damage = tt
+second_damage rule begins m x a world RunsSpent same node shown asked damage knows = tt
 
 -- the second operand's next node was read
 pub second_read : (told : Type 0) (m : Machine) (x : Operand) (a : Ask)
     (result : Result Unit SortFault) (old new : World) → AreOperands m.place.variables m.operands
     → x.file ≡ m.operands.second.file
     → OnOk result (IsReadTo a.key x) → (told → IsReading m.operands.second.reader old
-    → OnOk result (IsReading x.reader new)) → (told → Ran (Stays (now old)) old new)
-    → OnOk result (told → HoldsFirst a m old
-    → HoldsSome (record m { operands = record m.operands { second = x } }) new)
-second_read told m x a (Err e) old new are same to reads ran = tt
-second_read told m x a (Ok u) old new are same to reads ran = λ is first.
-    let fits = first_fits a m old first in
-    holds_read m (record m.operands { second = x }) old new a (second_files m x same) fits.first to
+    → OnOk result (IsReading x.reader new)) → (told → IsReading m.operands.second.reader old
+    → OnOk result (KnowsBelow (file old m.operands.second.file).bytes x.hand)) → (told → Ran (Stays (now old)) old new)
+    → OnOk result (told → (bytes : Option FileBytes) → AreBytesOf bytes m old → HoldsFirst bytes a m old
+    → HoldsSome bytes (record m { operands = record m.operands { second = x } }) new)
+second_read told m x a (Err e) old new are same to reads below ran = tt
+second_read told m x a (Ok u) old new are same to reads below ran = λ is bytes of first.
+    let fits = first_fits bytes a m old first in
+    holds_read bytes m (record m.operands { second = x }) old new a (second_files m x same) fits.first to
     fits.third (ran is)
     (λ apart reading. record {
       first = operand_still _ m.operands.first old new are.first
@@ -556,7 +653,16 @@ second_read told m x a (Ok u) old new are same to reads ran = λ is first.
       second = reads is reading.second;
       third = operand_still _ m.operands.third old new are.third
           (looked_same old new (ran is) m.operands.third.file) reading.third;
-    }) first
+    }) (hands_on is bytes of) first
+  where
+    hands_on : told → (bs : Option FileBytes) → AreBytesOf bs m old → IfSome bs (λ b. KnowsHands b m.operands)
+        → (AreApart (files_in m) m.parts.step → AreReading m.operands old)
+        → IfSome bs (λ b. KnowsHands b (record m.operands { second = x }))
+    hands_on is None of hands reading = tt
+    hands_on is (Some b) (same_bytes, apart) hands reading =
+        let knows : KnowsBelow b.second x.hand = subst (λ (v : FileBytes). KnowsBelow v.second x.hand) (sym same_bytes)
+        (below is (reading apart).second) in
+        record { first = hands.first; second = knows; third = hands.third }
 
 pub third_files : (m : Machine) (x : Operand) → x.file ≡ m.operands.third.file
     → files_in (record m { operands = record m.operands { third = x } }) ≡ files_in m
@@ -568,39 +674,56 @@ third_files m x same i = record {
   ends = ends_file m.writer;
 }
 
+-- what they hold stays where nothing is written
+pub third_bytes : (m : Machine) (x : Operand) (old new : World) → x.file ≡ m.operands.third.file
+    → Ran (Stays (now old)) old new
+    → bytes_in (record m { operands = record m.operands { third = x } }) new ≡ bytes_in m old
+third_bytes m x old new same ran i = record {
+  first = looked_same old new ran m.operands.first.file i;
+  second = looked_same old new ran m.operands.second.file i;
+  third = (ap (λ f. (file new f).bytes) same ∙ looked_same old new ran m.operands.third.file) i;
+}
+
 -- the third operand was refused
-pub third_damage : (m : Machine) (x : Operand) (a : Ask) (world : World) (e : SortFault)
-    → x.file ≡ m.operands.third.file → queues.shown m.queue ≡ Some a
+pub third_damage : (rule : Rule) (begins : Tuple → Tuple) (m : Machine) (x : Operand) (a : Ask) (world : World)
+    (e : SortFault)
+    → x.file ≡ m.operands.third.file → IsNodeWord a.key → queues.shown m.queue ≡ Some a
     → is_node a.key a.members.third ≡ true → (AreApart (files_in m) m.parts.step
     → IsReadDamage m.place.variables m.operands.third.file a.key world e)
-    → IsMachineDamage (record m { operands = record m.operands { third = x } }) world e
-third_damage m x a world Shelf same shown asked damage = tt
-third_damage m x a world (Damaged f at) same shown asked damage = λ apart.
+    → (AreApart (files_in m) m.parts.step
+    → StaysKnown rule begins (bytes_in (record m { operands = record m.operands { third = x } }) world)
+    → KnowsMembers (bytes_in (record m { operands = record m.operands { third = x } }) world) a.members)
+    → IsMachineDamage rule begins (record m { operands = record m.operands { third = x } }) world e
+third_damage rule begins m x a world Shelf same node shown asked damage knows = tt
+third_damage rule begins m x a world (Damaged f at) same node shown asked damage knows = λ apart.
     let before : AreApart (files_in m) m.parts.step = subst (λ fs. AreApart fs m.parts.step)
     (third_files m x same) apart in
     record {
       ask = a;
+      node = node;
       shown_is = shown;
+      known = knows before;
       damaged = inr (inr (
         asked,
         subst (λ g. IsReadDamage m.place.variables g a.key world
             (Damaged f at)) (sym same) (damage before),
       ));
     }
-third_damage m x a world RunsSpent same shown asked damage = tt
+third_damage rule begins m x a world RunsSpent same node shown asked damage knows = tt
 
 -- the third operand's next node was read
 pub third_read : (told : Type 0) (m : Machine) (x : Operand) (a : Ask)
     (result : Result Unit SortFault) (old new : World) → AreOperands m.place.variables m.operands
     → x.file ≡ m.operands.third.file
     → OnOk result (IsReadTo a.key x) → (told → IsReading m.operands.third.reader old
-    → OnOk result (IsReading x.reader new)) → (told → Ran (Stays (now old)) old new)
-    → OnOk result (told → HoldsFirst a m old
-    → HoldsSome (record m { operands = record m.operands { third = x } }) new)
-third_read told m x a (Err e) old new are same to reads ran = tt
-third_read told m x a (Ok u) old new are same to reads ran = λ is first.
-    let fits = first_fits a m old first in
-    holds_read m (record m.operands { third = x }) old new a (third_files m x same) fits.first
+    → OnOk result (IsReading x.reader new)) → (told → IsReading m.operands.third.reader old
+    → OnOk result (KnowsBelow (file old m.operands.third.file).bytes x.hand)) → (told → Ran (Stays (now old)) old new)
+    → OnOk result (told → (bytes : Option FileBytes) → AreBytesOf bytes m old → HoldsFirst bytes a m old
+    → HoldsSome bytes (record m { operands = record m.operands { third = x } }) new)
+third_read told m x a (Err e) old new are same to reads below ran = tt
+third_read told m x a (Ok u) old new are same to reads below ran = λ is bytes of first.
+    let fits = first_fits bytes a m old first in
+    holds_read bytes m (record m.operands { third = x }) old new a (third_files m x same) fits.first
     fits.second to (ran is)
     (λ apart reading. record {
       first = operand_still _ m.operands.first old new are.first
@@ -608,4 +731,13 @@ third_read told m x a (Ok u) old new are same to reads ran = λ is first.
       second = operand_still _ m.operands.second old new are.second
           (looked_same old new (ran is) m.operands.second.file) reading.second;
       third = reads is reading.third;
-    }) first
+    }) (hands_on is bytes of) first
+  where
+    hands_on : told → (bs : Option FileBytes) → AreBytesOf bs m old → IfSome bs (λ b. KnowsHands b m.operands)
+        → (AreApart (files_in m) m.parts.step → AreReading m.operands old)
+        → IfSome bs (λ b. KnowsHands b (record m.operands { third = x }))
+    hands_on is None of hands reading = tt
+    hands_on is (Some b) (same_bytes, apart) hands reading =
+        let knows : KnowsBelow b.third x.hand = subst (λ (v : FileBytes). KnowsBelow v.third x.hand) (sym same_bytes)
+        (below is (reading apart).third) in
+        record { first = hands.first; second = hands.second; third = knows }

@@ -6,6 +6,8 @@ pub mod Numbers
 pub mod Starting
 pub mod FuelLaws
 pub mod Holding
+pub mod Known
+pub mod StepKnown
 pub mod OperandReading
 pub mod SoundAsks
 pub mod OwnRuns

@@ -41,6 +41,7 @@ use Rattle.top_down_sweep.specs.declared.machine.Machine.{Machine}
 use Rattle.top_down_sweep.specs.Items.{ask_words, IsAsk, ask_cmp}
 use Rattle.top_down_sweep.specs.Fuel.{fuel_at, machine_fuel}
 use Rattle.top_down_sweep.specs.Sweeps.{files_in, IsMade, IsServed, IsPhaseAt, IsSoundMachine, HasMade, machine_accounts, Refuses}
+use Rattle.top_down_sweep.specs.Knowing.{FileBytes}
 use Rattle.top_down_sweep.specs.Waiting.{Waits, AreApart, HoldsSome}
 use Rattle.top_down_sweep.specs.Meaning.{Contents, StandsFor}
 use Rattle.top_down_sweep.specs.Calls.{IsFit, IsStepAt, IsMachineInStep}
@@ -117,9 +118,9 @@ module _ {S : Type 0} (tells : S → Bool) (world : S → World) where
       record {
         fit = record { sound = settled_sound m w same count fit.sound; at_work = step };
         load = refl;
-        asks = λ is holds. (let (asks, hold) = holds in (
+        asks = λ is bytes holds. (let (asks, hold) = holds in (
           asks,
-          holds_written 4 m q (world s) (world t) asks refl files fit.sound.operands (did.did is) hold,
+          holds_written bytes 4 m q (world s) (world t) asks refl files fit.sound.operands (did.did is) hold,
         ));
         arcs = arcs;
         stands = λ is k stands. stands_written 4 m q (world s) (world t) k k.inner k.ends refl files fit.sound.operands
@@ -190,11 +191,13 @@ module _ {S : Type 0} (tells : S → Bool) (world : S → World) (s t : S) (m : 
       });
     };
     load = count;
-    asks = λ is holds. (let (asks, hold) = holds in (
+    asks = λ is bytes holds. (let (asks, hold) = holds in (
       asks,
       record {
         wait = list is asks hold.wait;
         fit = hold.fit;
+        known = hold.known;
+        hands = hold.hands;
         no_run = runs_apart m q after fit.sound.served runs hold.no_run;
         reading = λ apart. (let before : AreApart (files_in m) m.parts.step =
             subst (AreApart (files_in m)) took.step_is apart in
@@ -268,16 +271,18 @@ module _ {S : Type 0} (tells : S → Bool) (world : S → World) (s t : S) (m : 
         }
         by (Err e) lists are tidy served named only firm = tt
 
-    freeze_undamaged : IfErr result (λ e. IsTrue (tells t) → HoldsSome m (world s) → IsNoDamage e)
+    freeze_undamaged : IfErr result (λ e. IsTrue (tells t) → (bytes : Option FileBytes)
+        → HoldsSome bytes m (world s) → IsNoDamage e)
     freeze_undamaged = by result list
       where
         by : (r : Result (List RunTable) SortFault) → (IsTrue (tells t) → (asks : List Ask)
             → Waits m.queue (world s) asks → Freezes (Waits q (world t)) Shown asks r)
-            → IfErr r (λ e. IsTrue (tells t) → HoldsSome m (world s) → IsNoDamage e)
+            → IfErr r (λ e. IsTrue (tells t) → (bytes : Option FileBytes)
+            → HoldsSome bytes m (world s) → IsNoDamage e)
         by (Ok tables) kept = tt
-        by (Err Shelf) kept = λ is holds. tt
-        by (Err (Damaged f at)) kept = λ is holds. (let (asks, hold) = holds in kept is asks hold.wait)
-        by (Err RunsSpent) kept = λ is holds. tt
+        by (Err Shelf) kept = λ is bytes holds. tt
+        by (Err (Damaged f at)) kept = λ is bytes holds. (let (asks, hold) = holds in kept is asks hold.wait)
+        by (Err RunsSpent) kept = λ is bytes holds. tt
 
     pub freeze_saves : (counts : S → Faults) → queues.HoldsValues IsAsk ask_words q → queues.Serves after q
         → queues.last_of q ≡ queues.last_of m.queue → OnOk result (queues.held q ≡ queues.held m.queue)
@@ -323,7 +328,7 @@ module _ {S : Type 0} (tells : S → Bool) (world : S → World) where
   keeps_then s t u p q r before first second = record {
     fit = second.fit;
     load = second.load ∙ first.load;
-    asks = λ is holds. second.asks is (first.asks (before is) holds);
+    asks = λ is bytes holds. second.asks is bytes (first.asks (before is) bytes holds);
     arcs = λ is xs ys held. second.arcs is xs ys (first.arcs (before is) xs ys held);
     stands = λ is k stands. second.stands is k (first.stands (before is) k stands);
   }
@@ -372,7 +377,7 @@ module _ {S : Type 0} (tells : S → Bool) (world : S → World) where
           operands_are = y.operands_are ∙ x.operands_are;
           last_is = y.last_is ∙ x.last_is;
           refused = y.refused;
-          undamaged = if_err_map two (λ e none is holds. none is (keeps.asks (before is) holds)) y.undamaged;
+          undamaged = if_err_map two (λ e none is bytes holds. none is bytes (keeps.asks (before is) bytes holds)) y.undamaged;
           keeps = on_ok_weaker two (λ more. keeps_then s t u p q r before keeps more) y.keeps;
         }
 
@@ -415,6 +420,7 @@ module _ {S : Type 0} (tells : S → Bool) (world : S → World) where
       operands_are = d.operands_are;
       last_is = d.last_is;
       refused = on_fault result e (Refuses q) is d.refused;
-      undamaged = on_fault result e (λ f. IsTrue (tells t) → HoldsSome p (world s) → IsNoDamage f) is d.undamaged;
+      undamaged = on_fault result e (λ f. IsTrue (tells t) → (bytes : Option FileBytes)
+          → HoldsSome bytes p (world s) → IsNoDamage f) is d.undamaged;
       keeps = refused_ok _ _ result is;
     }

@@ -43,7 +43,7 @@ task_on t rule begins n files now_files step now_step old new same_files same_st
     })
 
 -- what is apart is none of what a machine may change
-own_apart : (m : Machine) (old new : World) → 3 ≤ m.parts.next
+pub own_apart : (m : Machine) (old new : World) → 3 ≤ m.parts.next
     → OnlyOwn (λ f. IsMade (files_in m) f) m.parts.step m.parts.next (now old) (now new)
     → SameApart (files_in m) m.parts.step old new
 own_apart m old new past own f apart = ap (λ (x : File). x.bytes) (own.others f
@@ -52,7 +52,7 @@ own_apart m old new past own f apart = ap (λ (x : File). x.bytes) (own.others f
     let from : m.parts.next ≤ f.part = taken.from in absurd (omega (arith, early, from, past))))
 
 -- nor is it where what it made is made sure
-saved_apart : (m : Machine) (old new : World) → 3 ≤ m.parts.next
+pub saved_apart : (m : Machine) (old new : World) → 3 ≤ m.parts.next
     → OnlySaved (λ f. IsMade (files_in m) f) m.parts.step m.parts.next (now old) (now new)
     → SameApart (files_in m) m.parts.step old new
 saved_apart m old new past saved f apart = same_or_firm_bytes (IsBehindPoints m.parts.step) f (now old) (now new)

@@ -35,6 +35,8 @@ use Rattle.top_down_sweep.specs.declared.machine.Machine.{Machine}
 use Rattle.top_down_sweep.specs.declared.sweep.TopDownSweep.{TopDownSweep}
 use Rattle.top_down_sweep.specs.Items.{members_cmp, ask_cmp}
 use Rattle.top_down_sweep.specs.Sweeps.{made_at, made_in}
+use Rattle.top_down.specs.declared.tuple.Tuple.{Tuple}
+use Rattle.top_down.specs.Rules.{Rule}
 use Rattle.top_down_sweep.specs.Calls.{IsTrustedAt, IsTrusted}
 use Rattle.top_down_sweep.specs.Meaning.{form_of}
 use Rattle.top_down_sweep.specs.Soundness.{side_number, asker_word, is_asker, asks_above, nobody, identifier, next_number, next_numbered}
@@ -400,21 +402,23 @@ module _ (s : Asking) (m q : Machine) (old new : World) where
   }
 
 -- in each phase before the last one what was put is in order
-pub trusted_ordered : (p : Phase) (m : Machine) (world : World) → ((made : Unreduced) → p ≡ phases.Ended made → ⊥)
-    → IsTrustedAt p m world → HoldsOrdered m.writer world
-trusted_ordered phases.Fresh m world not_ended trusts = none_ordered m.writer world trusts.2
-trusted_ordered (phases.Asking s) m world not_ended trusts = put_ordered s m world trusts.1
-trusted_ordered (phases.Ended made) m world not_ended trusts = absurd (not_ended made refl)
+pub trusted_ordered : (rule : Rule) (begins : Tuple → Tuple) (p : Phase) (m : Machine) (world : World) → ((made : Unreduced) → p ≡ phases.Ended made → ⊥)
+    → IsTrustedAt rule begins p m world → HoldsOrdered m.writer world
+trusted_ordered rule begins phases.Fresh m world not_ended trusts = none_ordered m.writer world trusts.2
+trusted_ordered rule begins (phases.Asking s) m world not_ended trusts = put_ordered s m world trusts.1
+trusted_ordered rule begins (phases.Ended made) m world not_ended trusts = absurd (not_ended made refl)
 
 -- and once it has ended, so is what was made
-pub ended_ordered : (p : Phase) (m : Machine) (world : World) → IsTrustedAt p m world
+pub ended_ordered : (rule : Rule) (begins : Tuple → Tuple) (p : Phase) (m : Machine) (world : World)
+    → IsTrustedAt rule begins p m world
     → IfSome (made_at p) (λ made. AreOrdered made world)
-ended_ordered phases.Fresh m world trusts = tt
-ended_ordered (phases.Asking s) m world trusts = tt
-ended_ordered (phases.Ended made) m world trusts = trusts
+ended_ordered rule begins phases.Fresh m world trusts = tt
+ended_ordered rule begins (phases.Asking s) m world trusts = tt
+ended_ordered rule begins (phases.Ended made) m world trusts = trusts
 
 -- whatever the operands' files hold: once a sweep has ended, its two files are arcs in their order
-pub ended_in_order : {O : Type 0} (s : TopDownSweep O) (world : World) (made : Unreduced) → IsTrusted s world
+pub ended_in_order : {O : Type 0} (rule : O → Rule) (begins : O → Tuple → Tuple) (s : TopDownSweep O) (world : World)
+    (made : Unreduced) → IsTrusted rule begins s world
     → made_in s ≡ Some made → AreOrdered made world
-ended_in_order s world made trusts is = subst (λ o. IfSome o (λ x. AreOrdered x world)) is
-    (ended_ordered s.machine.place.phase s.machine world trusts)
+ended_in_order rule begins s world made trusts is = subst (λ o. IfSome o (λ x. AreOrdered x world)) is
+    (ended_ordered (rule s.operation) (begins s.operation) s.machine.place.phase s.machine world trusts)

@@ -10,9 +10,10 @@ use Rattle.top_down_sweep.specs.declared.place.Phase.TheVariants.{Fresh, Asking,
 use Rattle.shelf_model.specs.World.{World}
 use Rattle.arc_file.specs.Writers.{AreInStep}
 use Rattle.top_down_sweep.specs.Sweeps.{IsPhaseAt, IsAsking}
-use Rattle.top_down_sweep.specs.Waiting.{HoldsSome}
+use Rattle.top_down.specs.declared.tuple.Tuple.{Tuple}
+use Rattle.top_down.specs.Rules.{Rule}
 use Rattle.top_down_sweep.specs.Ordered.{IsOrdered, IsOrderedAt}
-use Rattle.top_down_sweep.specs.Calls.{IsStepAt, IsMachineInStep, IsTrustedAt, IsMachineTrusted}
+use Rattle.top_down_sweep.specs.Calls.{HoldsAsks, IsStepAt, IsMachineInStep, IsTrustedAt, IsMachineTrusted}
 
 -- whatever was taken
 pub phase_taken : (w : ArcWriter) (last now : Option Ask) (phase : Phase) → IsAsking phase → IsPhaseAt w last phase → IsPhaseAt w now phase
@@ -39,16 +40,16 @@ step_at m world is writes = by m.place.phase is
     by (Ended made) is = absurd is
 
 -- and what its turns put there
-pub trusted_at : (m : Machine) (world : World) → IsAsking m.place.phase → HoldsSome m world
-    → IsOrdered m world → IsMachineTrusted m world
-trusted_at m world is holds put = by m.place.phase is put
+pub trusted_at : (rule : Rule) (begins : Tuple → Tuple) (m : Machine) (world : World) → IsAsking m.place.phase
+    → HoldsAsks rule begins m world → IsOrdered m world → IsMachineTrusted rule begins m world
+trusted_at rule begins m world is holds put = by m.place.phase is put
   where
-    by : (phase : Phase) → IsAsking phase → IsOrderedAt phase m world → IsTrustedAt phase m world
+    by : (phase : Phase) → IsAsking phase → IsOrderedAt phase m world → IsTrustedAt rule begins phase m world
     by Fresh is put = absurd is
     by (Asking s) is put = (holds, put)
     by (Ended made) is put = absurd is
 
 -- what is trusted in a phase
-pub trusts_in : (m : Machine) (world : World) (p : Phase) → m.place.phase ≡ p → IsMachineTrusted m world
-    → IsTrustedAt p m world
-trusts_in m world p is trusts = subst (λ q. IsTrustedAt q m world) is trusts
+pub trusts_in : (rule : Rule) (begins : Tuple → Tuple) (m : Machine) (world : World) (p : Phase)
+    → m.place.phase ≡ p → IsMachineTrusted rule begins m world → IsTrustedAt rule begins p m world
+trusts_in rule begins m world p is trusts = subst (λ q. IsTrustedAt rule begins q m world) is trusts

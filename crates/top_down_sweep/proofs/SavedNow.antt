@@ -25,7 +25,11 @@ use Rattle.top_down_sweep.specs.Meaning.{Task, Contents, first_contents, IsReadO
 use Rattle.top_down_sweep.specs.Rebuilds.{read_at}
 use Rattle.top_down_sweep.specs.Resumes.{reading_at, IsAmong}
 use Rattle.top_down_sweep.specs.Turns.{left_at, turns_left, owed_by, sides_at}
-use Rattle.top_down_sweep.specs.Waiting.{HasNoHands, HoldsSome}
+use Rattle.top_down.specs.Rules.{Rule}
+use Rattle.top_down_sweep.specs.Knowing.{FileBytes, bytes_in}
+use Rattle.top_down_sweep.specs.Sweeps.{files_in}
+use Rattle.top_down_sweep.specs.Waiting.{AreApart, HasNoHands, HoldsSome}
+use Rattle.top_down_sweep.proofs.Known.{asks_kept}
 use Rattle.top_down_sweep.proofs.Orders.{put_kept}
 use Rattle.top_down_sweep.proofs.Resuming.{get_behind}
 use Rattle.top_down_sweep.proofs.TurnNumbers.{operand_left, owed_is, sides_are}
@@ -38,13 +42,21 @@ pub record IsSameBut (m q : Machine) : Type 0 where
 
 -- what waits, was read and was put stays
 pub record KeepsLists (m q : Machine) (old new : World) : Type 0 where
-  pub asks : KeepsAsks m old q new
+  pub files : files_in q ≡ files_in m
+  pub step : q.parts.step ≡ m.parts.step
+  pub bytes : AreApart (files_in m) m.parts.step → bytes_in q new ≡ bytes_in m old
+  pub asks : (bytes : Option FileBytes) → KeepsAsks bytes m old q new
   pub arcs : KeepsArcs m old q new
   pub stands : (k : Contents) → StandsFor m old k → StandsFor q new k
 
 pub lists_of : {S : Type 0} (tells : S → Bool) (world : S → World) (s t : S) (m q : Machine)
+    → files_in q ≡ files_in m → q.parts.step ≡ m.parts.step
+    → (AreApart (files_in m) m.parts.step → bytes_in q (world t) ≡ bytes_in m (world s))
     → KeepsAll tells world s t m q → IsTrue (tells t) → KeepsLists m q (world s) (world t)
-lists_of tells world s t m q keeps told = record {
+lists_of tells world s t m q files step bytes keeps told = record {
+  files = files;
+  step = step;
+  bytes = bytes;
   asks = keeps.asks told;
   arcs = keeps.arcs told;
   stands = keeps.stands told;
@@ -101,21 +113,23 @@ module _ (m q : Machine) (same : IsSameBut m q) where
         ∙ left_in t' begins m.place.phase (weight m) tuples works is
 
     -- what its turns put stands there still
-    trusts_in : (p : Phase) (n : ℕ) → 0 < fuel_at p n → IsTrustedAt p m old → IsTrustedAt p q new
-    trusts_in phases.Fresh n some (holds, hands, arcs) = (
-      keeps.asks holds,
+    trusts_in : (rule : Rule) (begins : Tuple → Tuple) (p : Phase) (n : ℕ) → 0 < fuel_at p n
+        → IsTrustedAt rule begins p m old → IsTrustedAt rule begins p q new
+    trusts_in rule begins phases.Fresh n some (holds, hands, arcs) = (
+      asks_kept m q old new keeps.files rule begins keeps.step keeps.bytes (λ bs stays of. keeps.asks bs) holds,
       subst HasNoHands (sym same.operands_are) hands,
       keeps.arcs [] [] arcs,
     )
-    trusts_in (phases.Asking a) n some (holds, put) = (
-      keeps.asks holds,
+    trusts_in rule begins (phases.Asking a) n some (holds, put) = (
+      asks_kept m q old new keeps.files rule begins keeps.step keeps.bytes (λ bs stays of. keeps.asks bs) holds,
       put_kept a m q old new same.last_is keeps.arcs put,
     )
-    trusts_in (phases.Ended made) n some is = absurd (omega (arith, some))
+    trusts_in rule begins (phases.Ended made) n some is = absurd (omega (arith, some))
 
-    pub trusts_same : IsMachineTrusted m old → IsMachineTrusted q new
-    trusts_same is = subst (λ (p : Place). IsTrustedAt p.phase q new) (sym same.place_is)
-        (trusts_in m.place.phase (weight m) works is)
+    pub trusts_same : (rule : Rule) (begins : Tuple → Tuple) → IsMachineTrusted rule begins m old
+        → IsMachineTrusted rule begins q new
+    trusts_same rule begins is = subst (λ (p : Place). IsTrustedAt rule begins p.phase q new) (sym same.place_is)
+        (trusts_in rule begins m.place.phase (weight m) works is)
 
 -- where something of a task remains, it is known what waits
 some_contents : (t' : Task) (begins : Tuple → Tuple) (p : Phase) (m : Machine) (world : World) (n : ℕ)
@@ -129,14 +143,15 @@ pub contents_of : (t' : Task) (begins : Tuple → Tuple) (m : Machine) (world : 
 contents_of t' begins m world works is = some_contents t' begins m.place.phase m world (weight m) works is
 
 -- asks wait that fit
-trusted_in : (p : Phase) (m : Machine) (world : World) (n : ℕ) → 0 < fuel_at p n → IsTrustedAt p m world
-    → HoldsSome m world
-trusted_in phases.Fresh m world n works (holds, hands, arcs) = holds
-trusted_in (phases.Asking a) m world n works (holds, put) = holds
-trusted_in (phases.Ended made) m world n works is = absurd (omega (arith, works))
+trusted_in : (rule : Rule) (begins : Tuple → Tuple) (p : Phase) (m : Machine) (world : World) (n : ℕ) → 0 < fuel_at p n
+    → IsTrustedAt rule begins p m world → HoldsSome None m world
+trusted_in rule begins phases.Fresh m world n works (holds, hands, arcs) = holds.some
+trusted_in rule begins (phases.Asking a) m world n works (holds, put) = holds.some
+trusted_in rule begins (phases.Ended made) m world n works is = absurd (omega (arith, works))
 
-pub trusted_some : (m : Machine) (world : World) → 0 < machine_fuel m → IsMachineTrusted m world → HoldsSome m world
-trusted_some m world works is = trusted_in m.place.phase m world (weight m) works is
+pub trusted_some : (rule : Rule) (begins : Tuple → Tuple) (m : Machine) (world : World) → 0 < machine_fuel m
+    → IsMachineTrusted rule begins m world → HoldsSome None m world
+trusted_some rule begins m world works is = trusted_in rule begins m.place.phase m world (weight m) works is
 
 -- an operand is saved as it was read
 module _ (nodes : List Node) (o : Operand) (world : World) (r : readings.Reading) (read : IsReadOf o world r)

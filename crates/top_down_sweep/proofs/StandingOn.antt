@@ -35,6 +35,7 @@ use Rattle.top_down_sweep.specs.declared.place.Place.{Place}
 use Rattle.top_down_sweep.specs.declared.machine.Machine.{Machine}
 use Rattle.top_down_sweep.specs.Items.{ask_words, IsAsk, ask_cmp}
 use Rattle.top_down_sweep.specs.Sweeps.{files_in, IsMade, IsServed, IsOperand, AreOperands}
+use Rattle.top_down_sweep.specs.Knowing.{FileBytes}
 use Rattle.top_down_sweep.specs.Waiting.{Waits, AreApart, HoldsSome}
 use Rattle.top_down_sweep.specs.Meaning.{Contents, IsReadOf, AreRead, StandsFor, some_one}
 use Rattle.top_down_sweep.specs.Changes.{ShowsAsk, TakesAsk, JoinAsks}
@@ -243,9 +244,10 @@ module _ {S : Type 0} (tells : S → Bool) (world : S → World) (s t : S) (m : 
   pub shows_undamaged : (result : Result (Option Ask) SortFault)
       → (IsTrue (tells t) → (asks : List Ask) → Waits m.queue (world s) asks
       → Shows (Waits q (world t)) asks result)
-      → IfErr result (λ e. IsTrue (tells t) → HoldsSome m (world s) → IsNoDamage e)
+      → IfErr result (λ e. IsTrue (tells t) → (bytes : Option FileBytes)
+      → HoldsSome bytes m (world s) → IsNoDamage e)
   shows_undamaged (Ok found) list = tt
-  shows_undamaged (Err e) list = λ told holds.
+  shows_undamaged (Err e) list = λ told bytes holds.
       let (asks, hold) = holds in
       undamaged_shown (Waits q (world t)) asks e (list told asks hold.wait)
 
@@ -269,9 +271,9 @@ module _ {S : Type 0} (tells : S → Bool) (world : S → World) (s t : S) (m : 
 
     pub takes_undamaged : (e : SortFault)
         → (IsTrue (tells t) → (asks : List Ask) → Waits m.queue (world s) asks
-        → Gives (Waits q (world t)) asks (Err e)) → IsTrue (tells t) → HoldsSome m (world s)
-        → IsNoDamage e
-    takes_undamaged e list told holds =
+        → Gives (Waits q (world t)) asks (Err e)) → IsTrue (tells t) → (bytes : Option FileBytes)
+        → HoldsSome bytes m (world s) → IsNoDamage e
+    takes_undamaged e list told bytes holds =
         let (asks, hold) = holds in
         undamaged_given (Waits q (world t)) asks e (list told asks hold.wait)
 
@@ -295,8 +297,9 @@ module _ {S : Type 0} (tells : S → Bool) (world : S → World) (s t : S) (m : 
     pub joins_undamaged : (a : Ask) (result : Result Unit SortFault)
         → (IsTrue (tells t) → (asks : List Ask) → Waits m.queue (world s) asks
         → Joins (Waits q (world t)) a asks result)
-        → IfErr result (λ e. IsTrue (tells t) → HoldsSome m (world s) → IsNoDamage e)
+        → IfErr result (λ e. IsTrue (tells t) → (bytes : Option FileBytes)
+        → HoldsSome bytes m (world s) → IsNoDamage e)
     joins_undamaged a (Ok u) list = tt
-    joins_undamaged a (Err e) list = λ told holds.
+    joins_undamaged a (Err e) list = λ told bytes holds.
         let (asks, hold) = holds in
         undamaged_joined (Waits q (world t)) a asks e (list told asks hold.wait)

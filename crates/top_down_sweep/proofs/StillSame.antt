@@ -82,11 +82,16 @@ module _ (q : Machine) (sound : IsSoundMachine q) (old new : World)
   -- and so are its lists
   pub lists_still : KeepsLists q q old new
   lists_still = record {
-    asks = λ holds. (let (asks, hold) = holds in (
+    files = refl;
+    step = refl;
+    bytes = λ apart i. record { first = first_same i; second = second_same i; third = third_same i };
+    asks = λ bytes holds. (let (asks, hold) = holds in (
       asks,
       record {
         wait = queue_kept IsAsk ask_words ask_cmp q.queue old new asks run_bytes hold.wait;
         fit = hold.fit;
+        known = hold.known;
+        hands = hold.hands;
         no_run = hold.no_run;
         reading = λ apart. reading_still (hold.reading apart);
       },

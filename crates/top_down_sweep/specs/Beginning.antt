@@ -13,6 +13,8 @@ use Rattle.top_down_sweep.specs.declared.beginning.OperandFiles.{OperandFiles}
 use Rattle.top_down_sweep.specs.declared.sweep.TopDownSweep.{TopDownSweep}
 use Rattle.top_down_sweep.specs.Sweeps.{files_of, parts_of, made_in, credit_of, stock_of, IsSound, IsStartDamage}
 use Rattle.top_down_sweep.specs.Damage.{IsStartFault}
+use Rattle.top_down.specs.declared.tuple.Tuple.{Tuple}
+use Rattle.top_down.specs.Rules.{Rule}
 use Rattle.top_down_sweep.specs.Calls.{IsInStep, IsTrusted}
 
 -- the part numbers behind the next two
@@ -36,11 +38,11 @@ pub record IsReady {O : Type 0} (s : TopDownSweep O) : Type 0 where
 
 -- the sweep reads and makes those files and takes those parts from then on, nothing was made, and
 -- at most eight calls were made or are paid for
-pub record Begun {S O : Type 0} (tells : S → Bool) (world : S → World) (files : Files)
-    (parts : Parts) (before after : S) (s : TopDownSweep O) : Type 0 where
+pub record Begun {S O : Type 0} (rule : O → Rule) (begins : O → Tuple → Tuple) (tells : S → Bool) (world : S → World)
+    (files : Files) (parts : Parts) (before after : S) (s : TopDownSweep O) : Type 0 where
   pub ready : IsReady s
   pub in_step : IsTrue (tells after) → IsInStep s (world after)
-  pub trusts : IsTrue (tells after) → IsTrusted s (world after)
+  pub trusts : IsTrue (tells after) → IsTrusted rule begins s (world after)
   pub files_are : files_of s ≡ files
   pub parts_are : parts_of s ≡ parts
   pub none_made : made_in s ≡ None

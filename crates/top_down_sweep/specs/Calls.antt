@@ -1,5 +1,5 @@
 -- What every call within a turn leaves and costs.
-use Rattle.std.specs.Prelude.{◌≡◌, ℕ, Bool, IsTrue, [], Result, IfErr, Some}
+use Rattle.std.specs.Prelude.{◌≡◌, ℕ, Bool, IsTrue, [], Result, IfErr, Option, Some, None}
 use Rattle.shelf_model.specs.declared.sort_fault.SortFault.{SortFault}
 use Rattle.shelf_model.specs.Faults.{Faults}
 use Rattle.shelf_model.specs.World.{World, file}
@@ -7,13 +7,16 @@ use Rattle.arc_file.specs.Writers.{inner_file, ends_file, AreInStep, HoldsArcs}
 use Rattle.level_queue.specs.Queues.{shown, last_of, IsNoLess}
 use Rattle.sweep_core.specs.Accounts.{Leaves}
 use Rattle.sweep_core.specs.Sweeps.{IsFirm}
+use Rattle.top_down.specs.declared.tuple.Tuple.{Tuple}
+use Rattle.top_down.specs.Rules.{Rule}
 use Rattle.top_down_sweep.specs.declared.ask.Ask.{Ask}
 use Rattle.top_down_sweep.specs.declared.place.Phase.{Phase}
 use Rattle.top_down_sweep.specs.declared.place.Phase.TheVariants.{Fresh, Asking, Ended}
 use Rattle.top_down_sweep.specs.declared.machine.Machine.{Machine}
 use Rattle.top_down_sweep.specs.declared.sweep.TopDownSweep.{TopDownSweep}
 use Rattle.top_down_sweep.specs.Items.{IsAsk, ask_cmp}
-use Rattle.top_down_sweep.specs.Waiting.{HasNoHands, HoldsSome}
+use Rattle.top_down_sweep.specs.Knowing.{FileBytes, bytes_in, StaysKnown}
+use Rattle.top_down_sweep.specs.Waiting.{AreApart, HasNoHands, HoldsSome, HoldsFirst}
 use Rattle.top_down_sweep.specs.Ordered.{AreOrdered, HoldsPut}
 use Rattle.top_down_sweep.specs.Sweeps.{files_in, machine_accounts, IsSoundMachine, Refuses}
 
@@ -31,18 +34,32 @@ IsMachineInStep m world = IsStepAt m.place.phase m world
 abbrev pub IsInStep : {O : Type 0} → TopDownSweep O → World → Type 0
 IsInStep s world = IsMachineInStep s.machine world
 
+-- asks that fit wait; and where the operands are apart and the operation makes of pointers that their files know such
+-- pointers alone, the files know all that the asks name
+pub record HoldsAsks (rule : Rule) (begins : Tuple → Tuple) (m : Machine) (world : World) : Type 0 where
+  pub some : HoldsSome None m world
+  pub known : AreApart (files_in m) m.parts.step → StaysKnown rule begins (bytes_in m world)
+      → HoldsSome (Some (bytes_in m world)) m world
+
+-- so they do, and that ask is the first of them
+pub record HoldsAskFirst (rule : Rule) (begins : Tuple → Tuple) (a : Ask) (m : Machine) (world : World) : Type 0 where
+  pub some : HoldsFirst None a m world
+  pub known : AreApart (files_in m) m.parts.step → StaysKnown rule begins (bytes_in m world)
+      → HoldsFirst (Some (bytes_in m world)) a m world
+
 -- what its turns put stands in its files: asks that fit wait, and the arcs are in order; before the root
 -- is asked for, nothing was read or put
-abbrev pub IsTrustedAt : Phase → Machine → World → Type 0
-IsTrustedAt Fresh m world = HoldsSome m world × HasNoHands m.operands × HoldsArcs m.writer world [] []
-IsTrustedAt (Asking s) m world = HoldsSome m world × HoldsPut s m world
-IsTrustedAt (Ended made) m world = AreOrdered made world
+abbrev pub IsTrustedAt : Rule → (Tuple → Tuple) → Phase → Machine → World → Type 0
+IsTrustedAt rule begins Fresh m world =
+    HoldsAsks rule begins m world × HasNoHands m.operands × HoldsArcs m.writer world [] []
+IsTrustedAt rule begins (Asking s) m world = HoldsAsks rule begins m world × HoldsPut s m world
+IsTrustedAt rule begins (Ended made) m world = AreOrdered made world
 
-abbrev pub IsMachineTrusted : Machine → World → Type 0
-IsMachineTrusted m world = IsTrustedAt m.place.phase m world
+abbrev pub IsMachineTrusted : Rule → (Tuple → Tuple) → Machine → World → Type 0
+IsMachineTrusted rule begins m world = IsTrustedAt rule begins m.place.phase m world
 
-abbrev pub IsTrusted : {O : Type 0} → TopDownSweep O → World → Type 0
-IsTrusted s world = IsMachineTrusted s.machine world
+abbrev pub IsTrusted : {O : Type 0} → (O → Rule) → (O → Tuple → Tuple) → TopDownSweep O → World → Type 0
+IsTrusted rule begins s world = IsMachineTrusted (rule s.operation) (begins s.operation) s.machine world
 
 -- within a turn it is sound, and its files hold what it takes them to hold
 pub record IsFit {S : Type 0} (tells : S → Bool) (world : S → World) (shelf : S) (m : Machine) :
@@ -51,8 +68,8 @@ pub record IsFit {S : Type 0} (tells : S → Bool) (world : S → World) (shelf 
   pub at_work : IsTrue (tells shelf) → AreInStep m.writer (world shelf)
 
 -- where asks that fit waited, such asks wait still
-abbrev pub KeepsAsks : Machine → World → Machine → World → Type 0
-KeepsAsks m old q new = HoldsSome m old → HoldsSome q new
+abbrev pub KeepsAsks : Option FileBytes → Machine → World → Machine → World → Type 0
+KeepsAsks bytes m old q new = HoldsSome bytes m old → HoldsSome bytes q new
 
 -- what no call changes
 pub record SameTask (old new : Machine) : Type 0 where

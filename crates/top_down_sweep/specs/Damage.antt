@@ -1,5 +1,6 @@
 -- Where an operand's file is damaged.
 use Rattle.std.specs.Prelude.{◌≡◌, ◌⊎◌, ℕ, ◌+◌, ◌*◌, ◌<◌, true, List, Some}
+use Rattle.rec_words.specs.Words.{IsNodeWord}
 use Rattle.file_numbers.specs.Files.{checkpoint_file}
 use Rattle.shelf_model.specs.declared.file_no.FileNo.{FileNo}
 use Rattle.shelf_model.specs.declared.sort_fault.SortFault.{SortFault}
@@ -10,12 +11,15 @@ use Rattle.node_reading.specs.Reading.{IsDamagedNode, IsTrailerFault}
 use Rattle.level_queue.specs.Queues as queues
 use Rattle.sweep_core.specs.Resting.{checkpoint_place}
 use Rattle.sweep_core.specs.Saving.{reads_of}
+use Rattle.top_down.specs.declared.tuple.Tuple.{Tuple}
+use Rattle.top_down.specs.Rules.{Rule}
 use Rattle.top_down_sweep.specs.declared.ask.Ask.{Ask}
 use Rattle.top_down_sweep.specs.declared.ask.Member.{Member}
 use Rattle.top_down_sweep.specs.declared.operand.Operand.{Operand}
 use Rattle.top_down_sweep.specs.declared.machine.Machine.{Machine}
 use Rattle.top_down_sweep.specs.declared.start.Files.{Files}
 use Rattle.top_down_sweep.specs.declared.sweep.TopDownSweep.{TopDownSweep}
+use Rattle.top_down_sweep.specs.Knowing.{bytes_in, KnowsMembers, StaysKnown}
 use Rattle.top_down_sweep.specs.Members.{is_node}
 use Rattle.top_down_sweep.specs.Sweeps.{files_in}
 use Rattle.top_down_sweep.specs.Waiting.{AreApart}
@@ -39,21 +43,25 @@ abbrev pub IsStartFault : Files → ℕ → World → SortFault → Type 0
 IsStartFault files n world e = IsTrailerFault files.first n world e
     ⊎ (IsTrailerFault files.second n world e ⊎ IsTrailerFault files.third n world e)
 
--- an operand is damaged, in which the first ask wants a node
-pub record IsAskDamage (m : Machine) (world : World) (f : FileNo) (at : ℕ) : Type 0 where
+-- an operand is damaged, in which the first ask wants a node; the operands' files know what that ask names, where the
+-- operation makes of pointers that they know such pointers alone
+pub record IsAskDamage (rule : Rule) (begins : Tuple → Tuple) (m : Machine) (world : World) (f : FileNo) (at : ℕ)
+    : Type 0 where
   pub ask : Ask
+  pub node : IsNodeWord ask.key
   pub shown_is : queues.shown m.queue ≡ Some ask
+  pub known : StaysKnown rule begins (bytes_in m world) → KnowsMembers (bytes_in m world) ask.members
   pub damaged :
       IsOperandDamage m.place.variables m.operands.first ask.key ask.members.first world f at
       ⊎ (IsOperandDamage m.place.variables m.operands.second ask.key ask.members.second world f at
       ⊎ IsOperandDamage m.place.variables m.operands.third ask.key ask.members.third world f at)
 
 -- damage is that of an operand, where they are apart from what the sweep writes
-abbrev pub IsMachineDamage : Machine → World → SortFault → Type 0
-IsMachineDamage m world Shelf = Unit
-IsMachineDamage m world (Damaged f at) = AreApart (files_in m) m.parts.step
-    → IsAskDamage m world f at
-IsMachineDamage m world RunsSpent = Unit
+abbrev pub IsMachineDamage : Rule → (Tuple → Tuple) → Machine → World → SortFault → Type 0
+IsMachineDamage rule begins m world Shelf = Unit
+IsMachineDamage rule begins m world (Damaged f at) = AreApart (files_in m) m.parts.step
+    → IsAskDamage rule begins m world f at
+IsMachineDamage rule begins m world RunsSpent = Unit
 
 -- the fault is a failed call, or damage of the file of a step's checkpoints
 abbrev pub IsOfCheckpoint : ℕ → SortFault → Type 0
@@ -68,5 +76,5 @@ IsCheckpointDamage step world (Damaged f at) = (f ≡ checkpoint_file step)
     × (at ≡ checkpoint_place step (reads_of world))
 IsCheckpointDamage step world RunsSpent = ⊥
 
-abbrev pub IsDamage : {O : Type 0} → TopDownSweep O → World → SortFault → Type 0
-IsDamage s world e = IsMachineDamage s.machine world e
+abbrev pub IsDamage : {O : Type 0} → (O → Rule) → (O → Tuple → Tuple) → TopDownSweep O → World → SortFault → Type 0
+IsDamage rule begins s world e = IsMachineDamage (rule s.operation) (begins s.operation) s.machine world e

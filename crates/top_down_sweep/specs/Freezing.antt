@@ -1,5 +1,5 @@
 -- What the calls leave by which a machine is made sure, so that it can be saved, and what they answer.
-use Rattle.std.specs.Prelude.{◌≡◌, ℕ, ◌≤◌, ◌^◌, Bool, false, IsTrue, List, Result, OnOk, IfErr}
+use Rattle.std.specs.Prelude.{◌≡◌, ℕ, ◌≤◌, ◌^◌, Bool, false, IsTrue, List, Option, Result, OnOk, IfErr}
 use Rattle.rec_words.specs.Words.{terminal}
 use Rattle.shelf_model.specs.declared.file_no.FileNo.{FileNo}
 use Rattle.shelf_model.specs.declared.sort_fault.SortFault.{SortFault}
@@ -16,6 +16,7 @@ use Rattle.sweep_core.specs.Sweeps.{IsNoDamage}
 use Rattle.top_down_sweep.specs.declared.machine.Machine.{Machine}
 use Rattle.top_down_sweep.specs.Items.{ask_words, IsAsk, ask_cmp}
 use Rattle.top_down_sweep.specs.Sweeps.{machine_accounts, Refuses}
+use Rattle.top_down_sweep.specs.Knowing.{FileBytes}
 use Rattle.top_down_sweep.specs.Waiting.{HoldsSome}
 use Rattle.top_down_sweep.specs.Ordered.{KeepsArcs}
 use Rattle.top_down_sweep.specs.Meaning.{Contents, StandsFor, AreFilesOf}
@@ -26,7 +27,7 @@ pub record KeepsAll {S : Type 0} (tells : S → Bool) (world : S → World) (bef
   where
     pub fit : IsFit tells world after new
     pub load : held new.queue ≡ held old.queue
-    pub asks : IsTrue (tells after) → KeepsAsks old (world before) new (world after)
+    pub asks : IsTrue (tells after) → (bytes : Option FileBytes) → KeepsAsks bytes old (world before) new (world after)
     pub arcs : IsTrue (tells after) → KeepsArcs old (world before) new (world after)
     pub stands : IsTrue (tells after) → (k : Contents) → StandsFor old (world before) k → StandsFor new (world after) k
 
@@ -39,7 +40,8 @@ pub record Saves {S T : Type 0} (tells : S → Bool) (world : S → World) (coun
   pub operands_are : new.operands ≡ old.operands
   pub last_is : last_of new.queue ≡ last_of old.queue
   pub refused : IfErr result (Refuses new)
-  pub undamaged : IfErr result (λ e. IsTrue (tells after) → HoldsSome old (world before) → IsNoDamage e)
+  pub undamaged : IfErr result (λ e. IsTrue (tells after) → (bytes : Option FileBytes)
+      → HoldsSome bytes old (world before) → IsNoDamage e)
   pub keeps : OnOk result (KeepsAll tells world before after old new)
 
 -- these are the arcs that were put, with any root: few, and whatever a stop leaves the two files are they

@@ -6,6 +6,7 @@ pub mod Members
 pub mod Soundness
 pub mod Sweeps
 pub mod Fuel
+pub mod Knowing
 pub mod Waiting
 pub mod Damage
 pub mod Ordered
@@ -17,6 +18,7 @@ pub mod Tasks
 pub mod Beginning
 pub mod Making
 pub mod Operations
+pub mod KnowingLaws
 pub mod Trusting
 pub mod Spellings
 pub mod OperationWords

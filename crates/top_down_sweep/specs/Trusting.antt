@@ -13,6 +13,7 @@ use Rattle.rec_words.specs.declared.node.Node.{Node}
 use Rattle.shelf_model.specs.World.{World}
 use Rattle.canon_file.specs.Members.{Has}
 use Rattle.canon_file.proofs.FileLaws.{terminal_ends}
+use Rattle.node_file.specs.Nodes.{HasNodes}
 use Rattle.arc_file.specs.declared.arc.Arc.{Arc}
 use Rattle.arc_file.specs.declared.kind.Kind.TheVariants.{Inner, End}
 use Rattle.arc_file.specs.declared.unreduced.Unreduced.{Unreduced}
@@ -36,10 +37,12 @@ use Rattle.top_down_sweep.specs.declared.sweep.TopDownSweep.{TopDownSweep}
 use Rattle.top_down_sweep.specs.Items.{ask_cmp}
 use Rattle.top_down_sweep.specs.ItemLaws.{ask_order}
 use Rattle.top_down_sweep.specs.Soundness.{side_number, asker_word, identifier}
-use Rattle.top_down_sweep.specs.Waiting.{IsReadTo, Fits, AreReading, Holds, HoldsSome, HoldsFirst}
+use Rattle.top_down_sweep.specs.Knowing.{FileBytes, bytes_in, KnowsBelow, KnowsHands}
+use Rattle.top_down_sweep.specs.KnowingLaws.{AreOfTask, open_known, hands_known}
+use Rattle.top_down_sweep.specs.Waiting.{IsReadTo, Fits, KnowsAsk, AreReading, Holds, HoldsSome, HoldsFirst}
 use Rattle.top_down_sweep.specs.Ordered.{AreOrdered, source_word, ArePutTo, ArePut}
 use Rattle.top_down_sweep.specs.Meaning.{Task, waiting_of, numbered_of, Contents, StandsFor, IsLeft, IsWorking, IsHandling, IsFresh, IsMadeOf, RemainsIn, RemainsOf, Remains}
-use Rattle.top_down_sweep.specs.Calls.{IsTrustedAt, IsMachineTrusted, IsTrusted}
+use Rattle.top_down_sweep.specs.Calls.{HoldsAsks, IsTrustedAt, IsMachineTrusted, IsTrusted}
 
 -- no node at hand lies behind the key of an ask that waits
 hand_to : (o : Operand) (hand : Option Node) (k l : ℕ) → o.hand ≡ hand → k ≡ l → IsUpToHand hand k
@@ -70,26 +73,52 @@ reads_of m world k stands = record {
   third = stands.read.third.reads;
 }
 
--- so asks wait that fit
-stands_holds : (t : Task) (s : Asking) (m : Machine) (world : World) (k : Contents) (last : Option Ask)
-    → StandsFor m world k → IsLeft t s last k → Holds m world k.asks
-stands_holds t s m world k last stands left = record {
+-- where the files are those of the task's diagrams, they know what the asks name
+asks_known : (t : Task) (b : FileBytes) → AreOfTask t b → (s : Asking) (k : Contents) (last : Option Ask)
+    → IsLeft t s last k → All (KnowsAsk (Some b)) k.asks
+asks_known t b are s k last left = λ i d within. one (get_or k.asks i d) (has_at k.asks i d within)
+  where
+    one : (a : Ask) → Has a k.asks → KnowsAsk (Some b) a
+    one a there =
+        let (o, is_open, same) = map_has (laws.waiting_of (targets_in t.diagrams)) (waiting_of a) left.opens
+        (subst (Has (waiting_of a)) left.are (has_map waiting_of a k.asks there)) in
+        open_known t b are a o (left.waits.are_open o is_open) same
+
+-- so asks wait that fit, and name what such files know
+stands_holds : (t : Task) (bytes : Option FileBytes) → IfSome bytes (AreOfTask t) → (s : Asking) (m : Machine)
+    (world : World) (k : Contents) (last : Option Ask) → StandsFor m world k → IsLeft t s last k
+    → Holds bytes m world k.asks
+stands_holds t bytes are s m world k last stands left = record {
   wait = stands.asks_are;
   fit = asks_fit t s m world k last stands left;
+  known = known bytes are;
+  hands = hands bytes are;
   no_run = stands.no_run;
   reading = λ apart. reads_of m world k stands;
 }
+  where
+    known : (bs : Option FileBytes) → IfSome bs (AreOfTask t) → All (KnowsAsk bs) k.asks
+    known None are = λ i d within. tt
+    known (Some b) are = asks_known t b are s k last left
+
+    hands : (bs : Option FileBytes) → IfSome bs (AreOfTask t) → IfSome bs (λ b. KnowsHands b m.operands)
+    hands None are = tt
+    hands (Some b) are = hands_known t b are m.operands world k.readings stands.read left.waits.reading
+
+some_holds : (t : Task) (bytes : Option FileBytes) → IfSome bytes (AreOfTask t) → (s : Asking) (m : Machine)
+    (world : World) → IsWorking t s m world → HoldsSome bytes m world
+some_holds t bytes are s m world w =
+    (w.contents.asks, stands_holds t bytes are s m world w.contents _ w.stands w.left)
 
 pub working_holds : (t : Task) (s : Asking) (m : Machine) (world : World) → IsWorking t s m world
-    → HoldsSome m world
-working_holds t s m world w =
-    (w.contents.asks, stands_holds t s m world w.contents _ w.stands w.left)
+    → HoldsSome None m world
+working_holds t s m world w = some_holds t None tt s m world w
 
 pub handling_holds : (t : Task) (s : Asking) (a : Ask) (m : Machine) (world : World)
-    → IsHandling t s a m world → HoldsFirst a m world
+    → IsHandling t s a m world → HoldsFirst None a m world
 handling_holds t s a m world h = (
   h.rest,
-  subst (Holds m world) h.first_is (stands_holds t s m world h.contents _ h.stands h.left),
+  subst (Holds None m world) h.first_is (stands_holds t None tt s m world h.contents _ h.stands h.left),
 )
 
 -- two words more are compared where all others are the same
@@ -243,19 +272,44 @@ module _ (n : ℕ) (rule : Rule) (d : Diagrams) (roots : Tuple) (task : laws.IsT
   put_made (Some x) None made = (let no : None ≡ Some made.taken = made.last_is in absurd (cc))
   put_made (Some x) (Some l) made = put_grown x l made
 
+-- where nothing waits, nothing is named
+none_holds : (bytes : Option FileBytes) (t : Task) (begins : Tuple → Tuple) (m : Machine) (world : World)
+    → IsFresh t begins m world → HoldsSome bytes m world
+none_holds bytes t begins m world f = (
+  [],
+  record {
+    wait = f.stands.asks_are;
+    fit = λ k d within. absurd (omega (arith, within));
+    known = λ k d within. absurd (omega (arith, within));
+    hands = no_hands bytes;
+    no_run = f.stands.no_run;
+    reading = λ apart. reads_of m world _ f.stands;
+  },
+)
+  where
+    below : (bs : List ℕ) (o : Operand) → o.hand ≡ None → KnowsBelow bs o.hand
+    below bs o is = subst (KnowsBelow bs) (sym is) tt
+
+    no_hands : (bs : Option FileBytes) → IfSome bs (λ b. KnowsHands b m.operands)
+    no_hands None = tt
+    no_hands (Some b) = record {
+      first = below b.first m.operands.first f.stands.read.first.hand_is;
+      second = below b.second m.operands.second f.stands.read.second.hand_is;
+      third = below b.third m.operands.third f.stands.read.third.hand_is;
+    }
+
+pub fresh_holds : (t : Task) (begins : Tuple → Tuple) (m : Machine) (world : World)
+    → IsFresh t begins m world → HoldsSome None m world
+fresh_holds t begins m world f = none_holds None t begins m world f
+
 -- before the root is asked for, nothing waits, and nothing was read or put
-pub fresh_trusts : (t : Task) (begins : Tuple → Tuple) (m : Machine) (world : World)
-    → IsFresh t begins m world → IsTrustedAt phases.Fresh m world
-fresh_trusts t begins m world f = (
-  (
-    [],
-    record {
-      wait = f.stands.asks_are;
-      fit = λ k d within. absurd (omega (arith, within));
-      no_run = f.stands.no_run;
-      reading = λ apart. reads_of m world _ f.stands;
-    },
-  ),
+fresh_trusts : (rule : Rule) (t : Task) (begins : Tuple → Tuple) (m : Machine) (world : World)
+    → IsFresh t begins m world → IsTrustedAt rule begins phases.Fresh m world
+fresh_trusts rule t begins m world f = (
+  record {
+    some = fresh_holds t begins m world f;
+    known = λ apart stays. none_holds (Some (bytes_in m world)) t begins m world f;
+  },
   record {
     first = f.stands.read.first.hand_is;
     second = f.stands.read.second.hand_is;
@@ -264,10 +318,13 @@ fresh_trusts t begins m world f = (
   f.stands.written,
 )
 
-working_trusts : (t : Task) (s : Asking) (m : Machine) (world : World) → IsWorking t s m world
-    → IsTrustedAt (phases.Asking s) m world
-working_trusts t s m world w = (
-  working_holds t s m world w,
+working_trusts : (rule : Rule) (begins : Tuple → Tuple) (t : Task) (s : Asking) (m : Machine) (world : World)
+    → AreOfTask t (bytes_in m world) → IsWorking t s m world → IsTrustedAt rule begins (phases.Asking s) m world
+working_trusts rule begins t s m world are w = (
+  record {
+    some = working_holds t s m world w;
+    known = λ apart stays. some_holds t (Some (bytes_in m world)) are s m world w;
+  },
   record {
     inner = w.contents.inner;
     ends = w.contents.ends;
@@ -296,16 +353,25 @@ made_ordered t world made is = record {
 }
 
 -- so it is in each phase
-pub remains_trusted : (t : Task) (begins : Tuple → Tuple) (m : Machine) (world : World)
-    → RemainsOf t begins m world → IsMachineTrusted m world
-remains_trusted t begins m world remains = by m.place.phase remains
+remains_trusted : (rule : Rule) (t : Task) (begins : Tuple → Tuple) (m : Machine) (world : World)
+    → AreOfTask t (bytes_in m world) → RemainsOf t begins m world → IsMachineTrusted rule begins m world
+remains_trusted rule t begins m world are remains = by m.place.phase remains
   where
-    by : (p : Phase) → RemainsIn t begins p m world → IsTrustedAt p m world
-    by phases.Fresh fresh = fresh_trusts t begins m world fresh
-    by (phases.Asking s) working = working_trusts t s m world working
+    by : (p : Phase) → RemainsIn t begins p m world → IsTrustedAt rule begins p m world
+    by phases.Fresh fresh = fresh_trusts rule t begins m world fresh
+    by (phases.Asking s) working = working_trusts rule begins t s m world are working
     by (phases.Ended made) done = made_ordered t world made done.made_of
 
 pub sweep_trusted : {O : Type 0} (rule : O → Rule) (begins : O → Tuple → Tuple) (s : TopDownSweep O)
-    (world : World) (t : Task) → Remains rule begins s world t → IsTrusted s world
+    (world : World) (t : Task) → Remains rule begins s world t → IsTrusted rule begins s world
 sweep_trusted rule begins s world t remains =
-    remains_trusted t (begins s.operation) s.machine world remains.left
+    let on = remains.on_files in
+    remains_trusted (rule s.operation) t (begins s.operation) s.machine world (record {
+      roots = on.roots;
+      first = subst (λ n. HasNodes n on.roots.first t.diagrams.first (bytes_in s.machine world).first)
+          (sym on.variables_are) on.nodes_are.first;
+      second = subst (λ n. HasNodes n on.roots.second t.diagrams.second (bytes_in s.machine world).second)
+          (sym on.variables_are) on.nodes_are.second;
+      third = subst (λ n. HasNodes n on.roots.third t.diagrams.third (bytes_in s.machine world).third)
+          (sym on.variables_are) on.nodes_are.third;
+    }) remains.left

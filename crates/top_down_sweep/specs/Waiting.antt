@@ -1,5 +1,5 @@
 -- The asks that wait, and what was read of the operands, where a folder tells its content.
-use Rattle.std.specs.Prelude.{◌≡◌, ◌≢◌, ℕ, ◌<◌, ◌≤◌, List, ◌∷◌, All, None, IfSome}
+use Rattle.std.specs.Prelude.{◌≡◌, ◌≢◌, ℕ, ◌<◌, ◌≤◌, List, ◌∷◌, All, Option, None, IfSome}
 use Rattle.rec_words.specs.Words.{level_of}
 use Rattle.shelf_model.specs.declared.file_no.FileNo.{FileNo}
 use Rattle.shelf_model.specs.World.{World}
@@ -12,6 +12,7 @@ use Rattle.top_down_sweep.specs.declared.operand.Operands.{Operands}
 use Rattle.top_down_sweep.specs.declared.machine.Machine.{Machine}
 use Rattle.top_down_sweep.specs.declared.start.Files.{Files}
 use Rattle.top_down_sweep.specs.Items.{ask_words, IsAsk, ask_cmp}
+use Rattle.top_down_sweep.specs.Knowing.{FileBytes, bytes_in, KnowsMembers, KnowsHands}
 use Rattle.top_down_sweep.specs.Sweeps.{files_in, IsMade}
 
 -- in that world these asks wait, and they ascend
@@ -62,18 +63,28 @@ pub record HasNoHands (o : Operands) : Type 0 where
   pub second : o.second.hand ≡ None
   pub third : o.third.hand ≡ None
 
--- those asks wait, and all fit; none stands in a file that the sweep makes; and the operands are
--- read as their files say, where they are apart
-pub record Holds (m : Machine) (world : World) (asks : List Ask) : Type 0 where
+-- where files are given, they are the operands' ones, which are apart
+abbrev pub AreBytesOf : Option FileBytes → Machine → World → Type 0
+AreBytesOf bytes m world = IfSome bytes (λ b. (b ≡ bytes_in m world) × AreApart (files_in m) m.parts.step)
+
+-- where files are given, they know the pointers that the ask names
+abbrev pub KnowsAsk : Option FileBytes → Ask → Type 0
+KnowsAsk bytes a = IfSome bytes (λ b. KnowsMembers b a.members)
+
+-- those asks wait, and all fit; where files are given, they know what the asks and the nodes at hand name; none stands
+-- in a file that the sweep makes; and the operands are read as their files say, where they are apart
+pub record Holds (bytes : Option FileBytes) (m : Machine) (world : World) (asks : List Ask) : Type 0 where
   pub wait : Waits m.queue world asks
   pub fit : All (Fits m.operands) asks
+  pub known : All (KnowsAsk bytes) asks
+  pub hands : IfSome bytes (λ b. KnowsHands b m.operands)
   pub no_run : (f : FileNo) → IsMade (files_in m) f → ¬ queues.IsRunOf m.queue f
   pub reading : AreApart (files_in m) m.parts.step → AreReading m.operands world
 
 -- some asks wait so
-abbrev pub HoldsSome : Machine → World → Type 0
-HoldsSome m world = (asks : List Ask) × Holds m world asks
+abbrev pub HoldsSome : Option FileBytes → Machine → World → Type 0
+HoldsSome bytes m world = (asks : List Ask) × Holds bytes m world asks
 
 -- that ask is the first of those that wait
-abbrev pub HoldsFirst : Ask → Machine → World → Type 0
-HoldsFirst a m world = (rest : List Ask) × Holds m world (a ∷ rest)
+abbrev pub HoldsFirst : Option FileBytes → Ask → Machine → World → Type 0
+HoldsFirst bytes a m world = (rest : List Ask) × Holds bytes m world (a ∷ rest)

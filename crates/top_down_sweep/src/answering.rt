@@ -22,6 +22,8 @@ impl<'r> Machine<'r> {
     ghost use Rattle.top_down_sweep.specs.Members.{IsResolved};
     ghost use Rattle.top_down_sweep.specs.Soundness.{is_due, is_sound, is_asker, next_numbered, identifier};
     ghost use Rattle.top_down_sweep.specs.Sweeps.{IsTakenTo, IsAsking};
+    ghost use Rattle.std.specs.Prelude.{Option, IfSome};
+    ghost use Rattle.top_down_sweep.specs.Knowing.{FileBytes, KnowsTuple, KnowsMembers, StaysKnown};
     ghost use Rattle.top_down_sweep.specs.Waiting.{AreReadTo, HoldsSome, HoldsFirst};
     ghost use Rattle.top_down_sweep.specs.Calls.{Does, IsFit, IsFirst, KeepsAsks};
     ghost use Rattle.std.specs.Prelude.{IfErr, ◌++◌, [], ◌∷◌, ◌^◌, List};
@@ -54,7 +56,9 @@ impl<'r> Machine<'r> {
         ensures fit { OnOk result (IsFit S.tells S.world shelf.new self.new) }
         ensures rest { self.new ≡ record self.old { queue = self.new.queue; parts = self.new.parts } }
         ensures holds { OnOk result (IsTrue (S.tells shelf.new) →
-            HoldsFirst ask.now self.old (S.world shelf.old) → HoldsSome self.new (S.world shelf.new)) }
+            (bytes : Option FileBytes) →
+            IfSome bytes (λ b. KnowsMembers b members) →
+            HoldsFirst bytes ask.now self.old (S.world shelf.old) → HoldsSome bytes self.new (S.world shelf.new)) }
         ensures load { OnOk result (held self.new.queue ≡ held self.old.queue) }
         ensures last { OnOk result (last_of self.new.queue ≡ Some ask.now) }
         ensures list { OnOk result (IsTrue (S.tells shelf.new) → (k : Contents) →
@@ -63,7 +67,8 @@ impl<'r> Machine<'r> {
         ensures arcs { OnOk result (IsTrue (S.tells shelf.new) →
             KeepsArcs self.old (S.world shelf.old) self.new (S.world shelf.new)) }
         ensures undamaged { IfErr result (λ e. IsTrue (S.tells shelf.new) →
-            HoldsFirst ask.now self.old (S.world shelf.old) → IsNoDamage e) }
+            (bytes : Option FileBytes) →
+            HoldsFirst bytes ask.now self.old (S.world shelf.old) → IsNoDamage e) }
     {
         self.take(ask, shelf)?;
         let again = Ask {
@@ -91,7 +96,10 @@ impl<'r> Machine<'r> {
         ensures does { Does S.tells S.world S.faults 105 6 shelf.old shelf.new self.old self.new result }
         ensures fit { OnOk result (IsFit S.tells S.world shelf.new self.new) }
         ensures holds { OnOk result (IsTrue (S.tells shelf.new) →
-            HoldsFirst ask.now self.old (S.world shelf.old) → HoldsSome self.new (S.world shelf.new)) }
+            (bytes : Option FileBytes) →
+            IfSome bytes (StaysKnown (O.rule operation.now) (O.begins operation.now)) →
+            IfSome bytes (λ b. KnowsMembers b members.now) →
+            HoldsFirst bytes ask.now self.old (S.world shelf.old) → HoldsSome bytes self.new (S.world shelf.new)) }
         ensures phase { OnOk result (IsAsking self.new.place.phase) }
         ensures operands { self.new.operands ≡ self.old.operands }
         ensures load { OnOk result (held self.new.queue ≤ held self.old.queue + 1) }
@@ -104,7 +112,8 @@ impl<'r> Machine<'r> {
         ensures ordered { OnOk result (IsTrue (S.tells shelf.new) →
             IsOrdered self.old (S.world shelf.old) → IsOrdered self.new (S.world shelf.new)) }
         ensures undamaged { IfErr result (λ e. IsTrue (S.tells shelf.new) →
-            HoldsFirst ask.now self.old (S.world shelf.old) → IsNoDamage e) }
+            (bytes : Option FileBytes) →
+            HoldsFirst bytes ask.now self.old (S.world shelf.old) → IsNoDamage e) }
     {
         self.take(ask, shelf)?;
         if let Some(known) = asking.known(ask) {
@@ -133,7 +142,7 @@ impl<'r> Machine<'r> {
         } }
         ensures phase { OnOk result (IsAsking self.new.place.phase) }
         ensures holds { OnOk result (IsTrue (S.tells shelf.new) →
-            KeepsAsks self.old (S.world shelf.old) self.new (S.world shelf.new)) }
+            (bytes : Option FileBytes) → KeepsAsks bytes self.old (S.world shelf.old) self.new (S.world shelf.new)) }
         ensures number { IfOk result (λ uid. uid ≡ identifier (next_numbered asking.now ask.now)) }
         ensures level { IfOk result (λ uid. level_of uid ≡ level_of ask.now.key) }
         ensures placed { OnOk result (self.new.place.phase
@@ -169,7 +178,7 @@ impl<'r> Machine<'r> {
         ensures does { Does S.tells S.world S.faults 1 0 shelf.old shelf.new self.old self.new result }
         ensures fit { OnOk result (IsFit S.tells S.world shelf.new self.new) }
         ensures holds { OnOk result (IsTrue (S.tells shelf.new) →
-            KeepsAsks self.old (S.world shelf.old) self.new (S.world shelf.new)) }
+            (bytes : Option FileBytes) → KeepsAsks bytes self.old (S.world shelf.old) self.new (S.world shelf.new)) }
         ensures rest { self.new ≡ record self.old { writer = self.new.writer } }
         ensures count { OnOk result (inner_count self.new.writer
             ≡ inner_count self.old.writer + cond (is_asker ask.now.asker) 1 0) }
@@ -207,7 +216,10 @@ impl<'r> Machine<'r> {
         ensures does { Does S.tells S.world S.faults 48 3 shelf.old shelf.new self.old self.new result }
         ensures fit { OnOk result (IsFit S.tells S.world shelf.new self.new) }
         ensures holds { OnOk result (IsTrue (S.tells shelf.new) → AreReadTo (level_of uid) self.old.operands →
-            KeepsAsks self.old (S.world shelf.old) self.new (S.world shelf.new)) }
+            (bytes : Option FileBytes) →
+            IfSome bytes (StaysKnown (O.rule operation.now) (O.begins operation.now)) →
+            IfSome bytes (λ b. KnowsMembers b members.now) →
+            KeepsAsks bytes self.old (S.world shelf.old) self.new (S.world shelf.new)) }
         ensures place { self.new.place ≡ record self.old.place { has_one = self.new.place.has_one } }
         ensures operands { self.new.operands ≡ self.old.operands }
         ensures load { OnOk result (held self.new.queue ≤ held self.old.queue + 1) }
@@ -220,7 +232,8 @@ impl<'r> Machine<'r> {
             xs (ys ++ side_arcs uid high
             (goal_below (O.rule operation.now) (level_of uid) high members.now))) }
         ensures undamaged { IfErr result (λ e. IsTrue (S.tells shelf.new) →
-            HoldsSome self.old (S.world shelf.old) → IsNoDamage e) }
+            (bytes : Option FileBytes) →
+            HoldsSome bytes self.old (S.world shelf.old) → IsNoDamage e) }
     {
         let lows = members.on_side(false);
         let highs = members.on_side(true);
@@ -254,7 +267,8 @@ impl<'r> Machine<'r> {
         ensures rest { self.new ≡ record self.old { queue = self.new.queue; parts = self.new.parts } }
         ensures holds { OnOk result (IsTrue (S.tells shelf.new) →
             AreReadTo (level_of source.uid) self.old.operands →
-            KeepsAsks self.old (S.world shelf.old) self.new (S.world shelf.new)) }
+            (bytes : Option FileBytes) → IfSome bytes (λ b. KnowsTuple b tuple.now) →
+            KeepsAsks bytes self.old (S.world shelf.old) self.new (S.world shelf.new)) }
         ensures load { OnOk result (held self.new.queue ≡ held self.old.queue + 1) }
         ensures last { last_of self.new.queue ≡ last_of self.old.queue }
         ensures list { OnOk result (IsTrue (S.tells shelf.new) → (k : Contents) →
@@ -263,7 +277,8 @@ impl<'r> Machine<'r> {
         ensures arcs { OnOk result (IsTrue (S.tells shelf.new) →
             KeepsArcs self.old (S.world shelf.old) self.new (S.world shelf.new)) }
         ensures undamaged { IfErr result (λ e. IsTrue (S.tells shelf.new) →
-            HoldsSome self.old (S.world shelf.old) → IsNoDamage e) }
+            (bytes : Option FileBytes) →
+            HoldsSome bytes self.old (S.world shelf.old) → IsNoDamage e) }
     {
         let Some(key) = key_of(tuple) else {
             unreachable!();

@@ -9,7 +9,9 @@ impl<'r> Machine<'r> {
     ghost use Rattle.level_queue.specs.Queues.{shown, last_of, held, IsNoLess};
     ghost use Rattle.top_down_sweep.specs.Items.{ask_cmp};
     ghost use Rattle.top_down_sweep.specs.Sweeps.{IsAsking};
-    ghost use Rattle.top_down_sweep.specs.Waiting.{Fits, HoldsSome, HoldsFirst};
+    ghost use Rattle.std.specs.Prelude.{Option};
+    ghost use Rattle.top_down_sweep.specs.Knowing.{FileBytes};
+    ghost use Rattle.top_down_sweep.specs.Waiting.{Fits, KnowsAsk, HoldsSome, HoldsFirst};
     ghost use Rattle.top_down_sweep.specs.Calls.{Does, IsFit, IsFirst, KeepsAsks};
     ghost use Rattle.std.specs.Prelude.{IfErr, [], ◌∷◌};
     ghost use Rattle.sweep_core.specs.Sweeps.{IsNoDamage};
@@ -26,7 +28,8 @@ impl<'r> Machine<'r> {
         ensures does { Does S.tells S.world S.faults 8 0 shelf.old shelf.new self.old self.new result }
         ensures fit { OnOk result (IsFit S.tells S.world shelf.new self.new) }
         ensures holds { IfOk result (λ found. IfSome found (λ a. IsTrue (S.tells shelf.new) →
-            HoldsSome self.old (S.world shelf.old) → HoldsFirst a self.new (S.world shelf.new))) }
+            (bytes : Option FileBytes) → HoldsSome bytes self.old (S.world shelf.old) →
+            HoldsFirst bytes a self.new (S.world shelf.new))) }
         ensures rest { self.new ≡ record self.old { queue = self.new.queue } }
         ensures last { last_of self.new.queue ≡ last_of self.old.queue }
         ensures load { OnOk result (held self.new.queue ≡ held self.old.queue) }
@@ -36,7 +39,8 @@ impl<'r> Machine<'r> {
         ensures arcs { OnOk result (IsTrue (S.tells shelf.new) →
             KeepsArcs self.old (S.world shelf.old) self.new (S.world shelf.new)) }
         ensures undamaged { IfErr result (λ e. IsTrue (S.tells shelf.new) →
-            HoldsSome self.old (S.world shelf.old) → IsNoDamage e) }
+            (bytes : Option FileBytes) →
+            HoldsSome bytes self.old (S.world shelf.old) → IsNoDamage e) }
     {
         self.queue.peek(shelf)
     }
@@ -49,7 +53,7 @@ impl<'r> Machine<'r> {
         ensures does { Does S.tells S.world S.faults 8 0 shelf.old shelf.new self.old self.new result }
         ensures fit { OnOk result (IsFit S.tells S.world shelf.new self.new) }
         ensures holds { OnOk result (IsTrue (S.tells shelf.new) →
-            KeepsAsks self.old (S.world shelf.old) self.new (S.world shelf.new)) }
+            (bytes : Option FileBytes) → KeepsAsks bytes self.old (S.world shelf.old) self.new (S.world shelf.new)) }
         ensures rest { self.new ≡ record self.old { queue = self.new.queue; parts = self.new.parts } }
         ensures load { OnOk result (held self.old.queue ≡ held self.new.queue + 1) }
         ensures last { OnOk result (last_of self.new.queue ≡ Some ask.now) }
@@ -58,7 +62,8 @@ impl<'r> Machine<'r> {
         ensures arcs { OnOk result (IsTrue (S.tells shelf.new) →
             KeepsArcs self.old (S.world shelf.old) self.new (S.world shelf.new)) }
         ensures undamaged { IfErr result (λ e. IsTrue (S.tells shelf.new) →
-            HoldsSome self.old (S.world shelf.old) → IsNoDamage e) }
+            (bytes : Option FileBytes) →
+            HoldsSome bytes self.old (S.world shelf.old) → IsNoDamage e) }
     {
         self.queue.take(&mut self.parts, shelf)?;
         Ok(())
@@ -82,7 +87,8 @@ impl<'r> Machine<'r> {
         ensures does { Does S.tells S.world S.faults 48 3 shelf.old shelf.new self.old self.new result }
         ensures fit { OnOk result (IsFit S.tells S.world shelf.new self.new) }
         ensures holds { OnOk result (IsTrue (S.tells shelf.new) → Fits self.old.operands ask →
-            KeepsAsks self.old (S.world shelf.old) self.new (S.world shelf.new)) }
+            (bytes : Option FileBytes) → KnowsAsk bytes ask →
+            KeepsAsks bytes self.old (S.world shelf.old) self.new (S.world shelf.new)) }
         ensures rest { self.new ≡ record self.old { queue = self.new.queue; parts = self.new.parts } }
         ensures load { OnOk result (held self.new.queue ≡ held self.old.queue + 1) }
         ensures last { last_of self.new.queue ≡ last_of self.old.queue }
@@ -91,7 +97,8 @@ impl<'r> Machine<'r> {
         ensures arcs { OnOk result (IsTrue (S.tells shelf.new) →
             KeepsArcs self.old (S.world shelf.old) self.new (S.world shelf.new)) }
         ensures undamaged { IfErr result (λ e. IsTrue (S.tells shelf.new) →
-            HoldsSome self.old (S.world shelf.old) → IsNoDamage e) }
+            (bytes : Option FileBytes) →
+            HoldsSome bytes self.old (S.world shelf.old) → IsNoDamage e) }
     {
         self.queue.push(ask, &mut self.parts, shelf)
     }

@@ -37,8 +37,8 @@ impl<'r, O: Operation> TopDownSweep<'r, O> {
     ) -> Result<TopDownSweep<'r, O>, SortFault>
         requires room { 16384 ≤ length room.old }
         requires past_made { 3 ≤ parts.next }
-        ensures begun { IfOk result (Begun S.tells S.world (files_from operands parts) (after_two parts)
-            shelf.old shelf.new) }
+        ensures begun { IfOk result (Begun O.rule O.begins S.tells S.world (files_from operands parts)
+            (after_two parts) shelf.old shelf.new) }
         ensures variables { IfOk result (λ s. variables_of s ≡ n) }
         ensures leaves { Starts S.tells S.world S.faults n (files_from operands parts) parts
             shelf.old shelf.new result }

@@ -24,6 +24,8 @@ impl<'r> Operand<'r> {
     ghost use Rattle.top_down_sweep.specs.Members.{wants};
     ghost use Rattle.node_reading.specs.Reading.{IsReading, IsFaultOf};
     ghost use Rattle.top_down_sweep.specs.Sweeps.{IsOperand};
+    ghost use Rattle.shelf_model.specs.World.{file};
+    ghost use Rattle.top_down_sweep.specs.Knowing.{KnowsBelow};
     ghost use Rattle.top_down_sweep.specs.Waiting.{IsReadTo};
     ghost use Rattle.top_down_sweep.specs.Damage.{IsReadDamage};
     ghost use Rattle.sweep_core.specs.Sweeps.{IsNoDamage};
@@ -66,6 +68,9 @@ impl<'r> Operand<'r> {
         ensures damaged { IfErr result (λ e. IsTrue (S.tells shelf.new) → (n : ℕ) → IsOperand n self.old →
             IsReading self.old.reader (S.world shelf.old) → IfSome self.old.hand (λ x. x.uid < key) →
             IsReadDamage n self.old.file key (S.world shelf.new) e) }
+        ensures below { OnOk result (IsTrue (S.tells shelf.new) → (n : ℕ) → IsOperand n self.old →
+            IsReading self.old.reader (S.world shelf.old) →
+            KnowsBelow (file (S.world shelf.old) self.old.file).bytes self.new.hand) }
         ensures next { OnOk result (IsTrue (S.tells shelf.new) → (r : Reading) →
             IsReadOf self.old (S.world shelf.old) r → ReadsNext self.new (S.world shelf.new) r) }
         ensures undamaged { IfErr result (λ e. IsTrue (S.tells shelf.new) → (r : Reading) →

@@ -64,7 +64,7 @@ impl<'r, O: Operation> TopDownSweep<'r, O> {
         requires ends_made { ¬ CanBeTaken parts.step parts.next files.ends }
         ensures ready { IfOk result IsSound }
         ensures in_step { IfOk result (λ s. IsTrue (S.tells shelf.new) → IsInStep s (S.world shelf.new)) }
-        ensures trusts { IfOk result (λ s. IsTrue (S.tells shelf.new) → IsTrusted s (S.world shelf.new)) }
+        ensures trusts { IfOk result (λ s. IsTrue (S.tells shelf.new) → IsTrusted O.rule O.begins s (S.world shelf.new)) }
         ensures files { IfOk result (λ s. files_of s ≡ files) }
         ensures variables { IfOk result (λ s. variables_of s ≡ n) }
         ensures parts { IfOk result (λ s. parts_of s ≡ parts) }

@@ -80,7 +80,8 @@ impl<'r, O: Operation> TopDownSweep<'r, O> {
         ensures ready { OnOk result (IsSound self.new) }
         ensures in_step { OnOk result (IsTrue (S.tells shelf.new) → IsInStep self.new (S.world shelf.new)) }
         ensures trusts { OnOk result (IsTrue (S.tells shelf.new) →
-            IsTrusted self.old (S.world shelf.old) → IsTrusted self.new (S.world shelf.new)) }
+            IsTrusted O.rule O.begins self.old (S.world shelf.old) →
+            IsTrusted O.rule O.begins self.new (S.world shelf.new)) }
         ensures files { files_of self.new ≡ files_of self.old }
         ensures same { task_of self.new ≡ task_of self.old }
         ensures operation { self.new.operation ≡ self.old.operation }
@@ -88,8 +89,8 @@ impl<'r, O: Operation> TopDownSweep<'r, O> {
         ensures fuel { OnOk result (fuel_of self.new ≡ 0) }
         ensures firm { OnOk result (IsTrue (S.tells shelf.new) → (f : FileNo) → IsMade (files_of self.new) f →
             IsFirm (file (S.world shelf.new) f)) }
-        ensures ordered { OnOk result (IsTrue (S.tells shelf.new) → IsTrusted self.old (S.world shelf.old) →
-            IfSome (made_in self.new) (λ made. AreOrdered made (S.world shelf.new))) }
+        ensures ordered { OnOk result (IsTrue (S.tells shelf.new) →
+            IsTrusted O.rule O.begins self.old (S.world shelf.old) → IfSome (made_in self.new) (λ made. AreOrdered made (S.world shelf.new))) }
         ensures leaves { Leaves S.tells S.world S.faults
             (accounts O) 4 0 shelf.old shelf.new self.old self.new result }
         ensures refused { IfErr result (Refused self.new) }
@@ -112,7 +113,8 @@ impl<'r, O: Operation> TopDownSweep<'r, O> {
         ensures ready { OnOk result (IsSound self.new) }
         ensures in_step { OnOk result (IsTrue (S.tells shelf.new) → IsInStep self.new (S.world shelf.new)) }
         ensures trusts { OnOk result (IsTrue (S.tells shelf.new) →
-            IsTrusted self.old (S.world shelf.old) → IsTrusted self.new (S.world shelf.new)) }
+            IsTrusted O.rule O.begins self.old (S.world shelf.old) →
+            IsTrusted O.rule O.begins self.new (S.world shelf.new)) }
         ensures files { files_of self.new ≡ files_of self.old }
         ensures same { task_of self.new ≡ task_of self.old }
         ensures operation { self.new.operation ≡ self.old.operation }
@@ -123,15 +125,16 @@ impl<'r, O: Operation> TopDownSweep<'r, O> {
         ensures ended { IsSome (made_in self.old) → StaysEnded shelf.old shelf.new self.old self.new result }
         ensures firm { AtEnd result (IsTrue (S.tells shelf.new) → (f : FileNo) → IsMade (files_of self.new) f →
             IsFirm (file (S.world shelf.new) f)) }
-        ensures ordered { OnOk result (IsTrue (S.tells shelf.new) → IsTrusted self.old (S.world shelf.old) →
-            IfSome (made_in self.new) (λ made. AreOrdered made (S.world shelf.new))) }
+        ensures ordered { OnOk result (IsTrue (S.tells shelf.new) →
+            IsTrusted O.rule O.begins self.old (S.world shelf.old) → IfSome (made_in self.new) (λ made. AreOrdered made (S.world shelf.new))) }
 
         // what the call leaves, and what it costs
         ensures leaves { Leaves S.tells S.world S.faults
             (accounts O) 113 6 shelf.old shelf.new self.old self.new result }
         ensures refused { IfErr result (Refused self.new) }
         ensures damage { IfErr result (λ e. IsTrue (S.tells shelf.new) →
-            IsTrusted self.old (S.world shelf.old) → IsDamage self.new (S.world shelf.new) e) }
+            IsTrusted O.rule O.begins self.old (S.world shelf.old) →
+            IsDamage O.rule O.begins self.new (S.world shelf.new) e) }
 
         // what remains of a task: once all is done, the two files are a diagram of its table
         ensures keeps { OnOk result (IsTrue (S.tells shelf.new) → (t : Task) →
@@ -170,7 +173,7 @@ impl<'r, O: Operation> Sweep<'r> for TopDownSweep<'r, O> {
 
     ghost accounts = { accounts O };
 
-    ghost damaged = { IsDamage };
+    ghost damaged = { IsDamage O.rule O.begins };
 
     ghost Task = { SweepTask };
 
@@ -182,7 +185,7 @@ impl<'r, O: Operation> Sweep<'r> for TopDownSweep<'r, O> {
 
     ghost in_step = { IsInStep };
 
-    ghost trusts = { IsTrusted };
+    ghost trusts = { IsTrusted O.rule O.begins };
 
     ghost trusted = { λ s world w remains. sweep_trusted O.rule O.begins s world w.task remains };
 

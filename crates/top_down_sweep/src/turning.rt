@@ -22,9 +22,13 @@ impl<'r> Machine<'r> {
     ghost use Rattle.sweep_core.specs.Sweeps.{Falls, StaysEnded};
     ghost use Rattle.top_down_sweep.specs.Sweeps.{IsSoundMachine, IsAsking, HasEnded, EndsAt};
     ghost use Rattle.top_down_sweep.specs.Fuel.{unread, weight, machine_fuel};
-    ghost use Rattle.top_down_sweep.specs.Waiting.{HasNoHands, HoldsSome, HoldsFirst};
+    ghost use Rattle.std.specs.Prelude.{Option, IfSome};
+    ghost use Rattle.top_down.specs.declared.tuple.Tuple.{Tuple};
+    ghost use Rattle.top_down.specs.Rules.{Rule};
+    ghost use Rattle.top_down_sweep.specs.Knowing.{FileBytes, KnowsTuple, StaysKnown};
+    ghost use Rattle.top_down_sweep.specs.Waiting.{AreBytesOf, HasNoHands, HoldsSome, HoldsFirst};
     ghost use Rattle.top_down_sweep.specs.Calls.{Does, IsFit, IsFirst, KeepsAsks};
-    ghost use Rattle.top_down_sweep.specs.Calls.{IsMachineInStep, IsTrustedAt, IsMachineTrusted};
+    ghost use Rattle.top_down_sweep.specs.Calls.{HoldsAsks, HoldsAskFirst, IsMachineInStep, IsTrustedAt, IsMachineTrusted};
     ghost use Rattle.top_down_sweep.specs.Damage.{IsMachineDamage};
     ghost use Rattle.std.specs.Prelude.{IfErr};
     ghost use Rattle.top_down_sweep.specs.Ordered.{IsOrdered, KeepsArcs};
@@ -45,7 +49,8 @@ impl<'r> Machine<'r> {
         ensures sound { OnOk result (IsSoundMachine self.new) }
         ensures in_step { OnOk result (IsTrue (S.tells shelf.new) → IsMachineInStep self.new (S.world shelf.new)) }
         ensures trusts { OnOk result (IsTrue (S.tells shelf.new) →
-            IsMachineTrusted self.old (S.world shelf.old) → IsMachineTrusted self.new (S.world shelf.new)) }
+            IsMachineTrusted (O.rule operation.now) (O.begins operation.now) self.old (S.world shelf.old) →
+            IsMachineTrusted (O.rule operation.now) (O.begins operation.now) self.new (S.world shelf.new)) }
         ensures falls { Falls (machine_fuel self.old) (machine_fuel self.new) result }
         ensures ends { IfOk result (λ turn. EndsAt turn self.new.place.phase) }
         ensures ended { HasEnded self.old.place.phase → StaysEnded shelf.old shelf.new self.old self.new result }
@@ -56,7 +61,8 @@ impl<'r> Machine<'r> {
             RemainsOf t (O.begins operation.now) self.old (S.world shelf.old) → TurnsFall t self.old.place.phase
             self.old (S.world shelf.old) self.new (S.world shelf.new) result }
         ensures damage { IfErr result (λ e. IsTrue (S.tells shelf.new) →
-            IsMachineTrusted self.old (S.world shelf.old) → IsMachineDamage self.new (S.world shelf.new) e) }
+            IsMachineTrusted (O.rule operation.now) (O.begins operation.now) self.old (S.world shelf.old) →
+            IsMachineDamage (O.rule operation.now) (O.begins operation.now) self.new (S.world shelf.new) e) }
         ensures undamaged { IfErr result (λ e. IsTrue (S.tells shelf.new) → (t : Task) →
             RemainsOf t (O.begins operation.now) self.old (S.world shelf.old) → IsNoDamage e) }
     {
@@ -79,7 +85,8 @@ impl<'r> Machine<'r> {
         ensures sound { OnOk result (IsSoundMachine self.new) }
         ensures in_step { OnOk result (IsTrue (S.tells shelf.new) → IsMachineInStep self.new (S.world shelf.new)) }
         ensures trusts { OnOk result (IsTrue (S.tells shelf.new) →
-            IsTrustedAt Phase.Fresh self.old (S.world shelf.old) → IsMachineTrusted self.new (S.world shelf.new)) }
+            IsTrustedAt (O.rule operation.now) (O.begins operation.now) Phase.Fresh self.old (S.world shelf.old) →
+            IsMachineTrusted (O.rule operation.now) (O.begins operation.now) self.new (S.world shelf.new)) }
         ensures falls { Falls (machine_fuel self.old) (machine_fuel self.new) result }
         ensures ends { IfOk result (λ turn. EndsAt turn self.new.place.phase) }
         ensures keeps { OnOk result (IsTrue (S.tells shelf.new) → (t : Task) → t.rule ≡ O.rule operation.now →
@@ -89,7 +96,8 @@ impl<'r> Machine<'r> {
             IsFresh t (O.begins operation.now) self.old (S.world shelf.old) → TurnsFall t Phase.Fresh
             self.old (S.world shelf.old) self.new (S.world shelf.new) result }
         ensures undamaged { IfErr result (λ e. IsTrue (S.tells shelf.new) →
-            HoldsSome self.old (S.world shelf.old) → IsNoDamage e) }
+            (bytes : Option FileBytes) →
+            HoldsSome bytes self.old (S.world shelf.old) → IsNoDamage e) }
     {
         let roots = operation.roots(&self.operands.roots());
         match operation.goal(&roots) {
@@ -111,7 +119,8 @@ impl<'r> Machine<'r> {
         ensures fit { OnOk result (IsFit S.tells S.world shelf.new self.new) }
         ensures phase { OnOk result (IsAsking self.new.place.phase) }
         ensures holds { OnOk result (IsTrue (S.tells shelf.new) → HasNoHands self.old.operands →
-            KeepsAsks self.old (S.world shelf.old) self.new (S.world shelf.new)) }
+            (bytes : Option FileBytes) → IfSome bytes (λ b. KnowsTuple b tuple.now) →
+            KeepsAsks bytes self.old (S.world shelf.old) self.new (S.world shelf.new)) }
         ensures weight { OnOk result (weight self.new ≡ weight self.old + 1) }
         ensures keeps { OnOk result (IsTrue (S.tells shelf.new) → (t : Task) →
             t.rule.goal t.roots ≡ Goal.Go tuple.now →
@@ -120,7 +129,8 @@ impl<'r> Machine<'r> {
         ensures ordered { OnOk result (IsTrue (S.tells shelf.new) →
             IsOrdered self.old (S.world shelf.old) → IsOrdered self.new (S.world shelf.new)) }
         ensures undamaged { IfErr result (λ e. IsTrue (S.tells shelf.new) →
-            HoldsSome self.old (S.world shelf.old) → IsNoDamage e) }
+            (bytes : Option FileBytes) →
+            HoldsSome bytes self.old (S.world shelf.old) → IsNoDamage e) }
     {
         let Some(key) = key_of(tuple) else {
             unreachable!();
@@ -150,8 +160,9 @@ impl<'r> Machine<'r> {
         ensures sound { OnOk result (IsSoundMachine self.new) }
         ensures in_step { OnOk result (IsTrue (S.tells shelf.new) → IsMachineInStep self.new (S.world shelf.new)) }
         ensures trusts { OnOk result (IsTrue (S.tells shelf.new) →
-            IsTrustedAt (Phase.Asking asking.now) self.old (S.world shelf.old) →
-            IsMachineTrusted self.new (S.world shelf.new)) }
+            IsTrustedAt (O.rule operation.now) (O.begins operation.now) (Phase.Asking asking.now)
+            self.old (S.world shelf.old) →
+            IsMachineTrusted (O.rule operation.now) (O.begins operation.now) self.new (S.world shelf.new)) }
         ensures falls { Falls (machine_fuel self.old) (machine_fuel self.new) result }
         ensures ends { IfOk result (λ turn. EndsAt turn self.new.place.phase) }
         ensures keeps { OnOk result (IsTrue (S.tells shelf.new) → (t : Task) → t.rule ≡ O.rule operation.now →
@@ -161,7 +172,8 @@ impl<'r> Machine<'r> {
             IsWorking t asking.now self.old (S.world shelf.old) → TurnsFall t (Phase.Asking asking.now)
             self.old (S.world shelf.old) self.new (S.world shelf.new) result }
         ensures damage { IfErr result (λ e. IsTrue (S.tells shelf.new) →
-            HoldsSome self.old (S.world shelf.old) → IsMachineDamage self.new (S.world shelf.new) e) }
+            HoldsAsks (O.rule operation.now) (O.begins operation.now) self.old (S.world shelf.old) →
+            IsMachineDamage (O.rule operation.now) (O.begins operation.now) self.new (S.world shelf.new) e) }
         ensures undamaged { IfErr result (λ e. IsTrue (S.tells shelf.new) → (t : Task) →
             IsWorking t asking.now self.old (S.world shelf.old) → IsNoDamage e) }
     {
@@ -188,7 +200,10 @@ impl<'r> Machine<'r> {
         ensures fit { OnOk result (IsFit S.tells S.world shelf.new self.new) }
         ensures phase { OnOk result (IsAsking self.new.place.phase) }
         ensures holds { OnOk result (IsTrue (S.tells shelf.new) →
-            HoldsFirst ask.now self.old (S.world shelf.old) → HoldsSome self.new (S.world shelf.new)) }
+            (bytes : Option FileBytes) →
+            IfSome bytes (StaysKnown (O.rule operation.now) (O.begins operation.now)) →
+            AreBytesOf bytes self.old (S.world shelf.old) →
+            HoldsFirst bytes ask.now self.old (S.world shelf.old) → HoldsSome bytes self.new (S.world shelf.new)) }
         ensures falls { OnOk result (weight self.new < weight self.old) }
         ensures keeps { OnOk result (IsTrue (S.tells shelf.new) → (t : Task) → t.rule ≡ O.rule operation.now →
             IsHandling t asking.now ask.now self.old (S.world shelf.old) →
@@ -196,7 +211,8 @@ impl<'r> Machine<'r> {
         ensures ordered { OnOk result (IsTrue (S.tells shelf.new) →
             IsOrdered self.old (S.world shelf.old) → IsOrdered self.new (S.world shelf.new)) }
         ensures damage { IfErr result (λ e. IsTrue (S.tells shelf.new) →
-            HoldsFirst ask.now self.old (S.world shelf.old) → IsMachineDamage self.new (S.world shelf.new) e) }
+            HoldsAskFirst (O.rule operation.now) (O.begins operation.now) ask.now self.old (S.world shelf.old) →
+            IsMachineDamage (O.rule operation.now) (O.begins operation.now) self.new (S.world shelf.new) e) }
         ensures undamaged { IfErr result (λ e. IsTrue (S.tells shelf.new) → (t : Task) →
             IsHandling t asking.now ask.now self.old (S.world shelf.old) → IsNoDamage e) }
     {
@@ -226,7 +242,9 @@ impl<'r> Machine<'r> {
         ensures fit { OnOk result (IsFit S.tells S.world shelf.new self.new) }
         ensures rest { self.new ≡ record self.old { operands = self.new.operands } }
         ensures holds { OnOk result (IsTrue (S.tells shelf.new) →
-            HoldsFirst ask.now self.old (S.world shelf.old) → HoldsSome self.new (S.world shelf.new)) }
+            (bytes : Option FileBytes) →
+            AreBytesOf bytes self.old (S.world shelf.old) →
+            HoldsFirst bytes ask.now self.old (S.world shelf.old) → HoldsSome bytes self.new (S.world shelf.new)) }
         ensures falls { OnOk result (unread self.new.operands < unread self.old.operands) }
         ensures keeps { OnOk result (IsTrue (S.tells shelf.new) → (t : Task) → (s : Asking) →
             IsHandling t s ask.now self.old (S.world shelf.old) →
@@ -234,7 +252,8 @@ impl<'r> Machine<'r> {
         ensures arcs { OnOk result (IsTrue (S.tells shelf.new) →
             KeepsArcs self.old (S.world shelf.old) self.new (S.world shelf.new)) }
         ensures damage { IfErr result (λ e. IsTrue (S.tells shelf.new) →
-            HoldsFirst ask.now self.old (S.world shelf.old) → IsMachineDamage self.new (S.world shelf.new) e) }
+            (rule : Rule) → (begins : Tuple → Tuple) → HoldsAskFirst rule begins ask.now self.old (S.world shelf.old) →
+            IsMachineDamage rule begins self.new (S.world shelf.new) e) }
         ensures undamaged { IfErr result (λ e. IsTrue (S.tells shelf.new) → (t : Task) → (s : Asking) →
             IsHandling t s ask.now self.old (S.world shelf.old) → IsNoDamage e) }
     {

@@ -17,6 +17,10 @@ impl<'r> Machine<'r> {
     ghost use Rattle.top_down_sweep.specs.Sweeps.{IsSoundMachine};
     ghost use Rattle.top_down_sweep.specs.Calls.{Does, IsFit, IsMachineInStep, IsMachineTrusted, KeepsAsks};
     ghost use Rattle.top_down_sweep.specs.Ordered.{HoldsOrdered};
+    ghost use Rattle.std.specs.Prelude.{Option};
+    ghost use Rattle.top_down.specs.declared.tuple.Tuple.{Tuple};
+    ghost use Rattle.top_down.specs.Rules.{Rule};
+    ghost use Rattle.top_down_sweep.specs.Knowing.{FileBytes};
     ghost use Rattle.std.specs.Prelude.{IfErr, ◌++◌, ◌||◌};
     ghost use Rattle.arc_file.specs.Files.{end_arcs};
     ghost use Rattle.sweep_core.specs.Sweeps.{IsNoDamage};
@@ -28,7 +32,7 @@ impl<'r> Machine<'r> {
         ensures does { Does S.tells S.world S.faults 1 0 shelf.old shelf.new self.old self.new result }
         ensures fit { OnOk result (IsFit S.tells S.world shelf.new self.new) }
         ensures holds { OnOk result (IsTrue (S.tells shelf.new) →
-            KeepsAsks self.old (S.world shelf.old) self.new (S.world shelf.new)) }
+            (bytes : Option FileBytes) → KeepsAsks bytes self.old (S.world shelf.old) self.new (S.world shelf.new)) }
         ensures rest { self.new ≡ record self.old {
           place = record self.old.place { has_one = self.new.place.has_one };
           writer = self.new.writer;
@@ -56,7 +60,8 @@ impl<'r> Machine<'r> {
         ensures sound { OnOk result (IsSoundMachine self.new) }
         ensures in_step { OnOk result (IsTrue (S.tells shelf.new) → IsMachineInStep self.new (S.world shelf.new)) }
         ensures trusts { OnOk result (IsTrue (S.tells shelf.new) →
-            HoldsOrdered self.old.writer (S.world shelf.old) → IsMachineTrusted self.new (S.world shelf.new)) }
+            (rule : Rule) → (begins : Tuple → Tuple) → HoldsOrdered self.old.writer (S.world shelf.old) →
+            IsMachineTrusted rule begins self.new (S.world shelf.new)) }
         ensures turn { IfOk result (λ turn. turn ≡ turns.Ended) }
         ensures one { self.new.place.has_one ≡ self.old.place.has_one }
         ensures made { OnOk result (self.new.place.phase ≡ phases.Ended (made_of self.new.writer root)) }

@@ -9,7 +9,7 @@ use Rattle.top_down_laws.specs.Forms.{least}
 use Rattle.top_down_sweep.specs.Members.{all_waiting}
 use Rattle.top_down_sweep.specs.declared.ask.Members.{Members}
 use Rattle.top_down.specs.declared.tuple.Goal.{Goal}
-use Rattle.std.specs.Prelude.{Bool, Some}
+use Rattle.std.specs.Prelude.{Bool, Some, None}
 use Rattle.top_down_sweep.specs.Changes.{goal_below}
 use Rattle.top_down_sweep.specs.Meaning.{Contents, StandsFor}
 use Rattle.top_down_sweep.proofs.FormsOf.{is_known, unknown_where}
@@ -17,7 +17,7 @@ use Rattle.top_down_sweep.proofs.TurnKeeps.{known_works, new_works}
 use Rattle.level_queue.specs.Queues.{last_of}
 use Rattle.top_down_sweep.proofs.FuelLaws.{two_more}
 use Rattle.node_reading.proofs.NodeReading.{if_handed}
-use Rattle.top_down_sweep.proofs.Holding.{first_holds, first_fits, read_level, if_err_map}
+use Rattle.top_down_sweep.proofs.Holding.{first_holds, first_fits, first_forgets, read_level, if_err_map}
 use Rattle.std.proofs.lemmas.Result.{on_ok_weaker}
 use Rattle.std.proofs.lemmas.Bool.{and_parts}
 use Rattle.top_down_sweep.specs.Waiting.{AreReadTo}
@@ -93,13 +93,13 @@ returns-in-Some-clause-phase g c = on_ok c.put_inner.result
 
 -- the ask is the first of those that wait, and the others wait after each call
 pub returns-in-Some-clause-holds : goal.returns-in-Some-clause-holds
-returns-in-Some-clause-holds g c = on_ok_weaker c.put_inner.result (λ holds told first.
-    holds told (c.in_ok-take.ensures.holds (c.put_inner.ensures.does.leaves.content.before told)
-    (first_holds c.args.ask.now c.args.self.now _ first))) c.put_inner.ensures.holds
+returns-in-Some-clause-holds g c = on_ok_weaker c.put_inner.result (λ holds told bytes stays knows first.
+    holds told bytes (c.in_ok-take.ensures.holds (c.put_inner.ensures.does.leaves.content.before told) bytes
+    (first_holds bytes c.args.ask.now c.args.self.now _ first))) c.put_inner.ensures.holds
 
 -- no operand was read past its level
 pub returns-clause-holds : goal.returns-clause-holds
-returns-clause-holds g c = on_ok_weaker c.ask_side-2.result (λ holds told first.
+returns-clause-holds g c = on_ok_weaker c.ask_side-2.result (λ holds told bytes stays knows first.
     let after_low = c.ask_side-2.ensures.does.leaves.content.before told in
     let after_number = c.ask_side.ensures.does.leaves.content.before after_low in
     let after_take = c.number.ensures.does.leaves.content.before after_number in
@@ -108,31 +108,32 @@ returns-clause-holds g c = on_ok_weaker c.ask_side-2.result (λ holds told first
     c.take.ensures.rest in
     let read : AreReadTo (level_of c.in_ok-uid.uid) c.args.self.now.operands =
     read_level c.args.self.now.operands c.args.ask.now (level_of c.in_ok-uid.uid)
-    c.in_ok-uid.ensures.level (first_fits c.args.ask.now c.args.self.now _ first) in
+    c.in_ok-uid.ensures.level (first_fits bytes c.args.ask.now c.args.self.now _ first) in
     holds told (subst (λ (o : Operands). AreReadTo (level_of c.in_ok-uid.uid) o)
-    (sym (c.ask_side.ensures.operands ∙ same)) read)
+    (sym (c.ask_side.ensures.operands ∙ same)) read) bytes stays knows
     (c.in_ok-ask_side.ensures.holds after_low
-    (subst (λ (o : Operands). AreReadTo (level_of c.in_ok-uid.uid) o) (sym same) read)
-    (c.in_ok-uid.ensures.holds after_number
-    (c.in_ok-take.ensures.holds after_take
-    (first_holds c.args.ask.now c.args.self.now _ first))))) c.ask_side-2.ensures.holds
+    (subst (λ (o : Operands). AreReadTo (level_of c.in_ok-uid.uid) o) (sym same) read) bytes stays knows
+    (c.in_ok-uid.ensures.holds after_number bytes
+    (c.in_ok-take.ensures.holds after_take bytes
+    (first_holds bytes c.args.ask.now c.args.self.now _ first))))) c.ask_side-2.ensures.holds
 
 -- and none of them finds damage
 pub returns-in_err-take-clause-undamaged : goal.returns-in_err-take-clause-undamaged
 returns-in_err-take-clause-undamaged g c = if_handed _ c.from_residual.result _
-    c.from_residual.ensures.1 (λ told first. c.in_err-take.ensures.undamaged told
-    (first_holds c.args.ask.now c.args.self.now _ first))
+    c.from_residual.ensures.1 (λ told bytes first. c.in_err-take.ensures.undamaged told bytes
+    (first_holds bytes c.args.ask.now c.args.self.now _ first))
 
 pub returns-in_err-ask_side-clause-undamaged : goal.returns-in_err-ask_side-clause-undamaged
 returns-in_err-ask_side-clause-undamaged g c = if_handed _ c.from_residual-in_err-ask_side.result _
-    c.from_residual-in_err-ask_side.ensures.1 (λ told first.
+    c.from_residual-in_err-ask_side.ensures.1 (λ told bytes first.
     let after_number = c.ask_side.ensures.does.leaves.content.before told in
     let after_take = c.number.ensures.does.leaves.content.before after_number in
-    c.in_err-ask_side.ensures.undamaged told (c.in_ok-uid.ensures.holds after_number
-    (c.in_ok-take.ensures.holds after_take (first_holds c.args.ask.now c.args.self.now _ first))))
+    c.in_err-ask_side.ensures.undamaged told bytes (c.in_ok-uid.ensures.holds after_number bytes
+    (c.in_ok-take.ensures.holds after_take bytes (first_holds bytes c.args.ask.now c.args.self.now _ first))))
 
 pub returns-clause-undamaged : goal.returns-clause-undamaged
-returns-clause-undamaged g c = if_err_map c.ask_side-2.result (λ e none told first.
+returns-clause-undamaged g c = if_err_map c.ask_side-2.result (λ e none told bytes known_first.
+    let first = first_forgets bytes c.args.ask.now c.args.self.now _ known_first in
     let after_low = c.ask_side-2.ensures.does.leaves.content.before told in
     let after_number = c.ask_side.ensures.does.leaves.content.before after_low in
     let after_take = c.number.ensures.does.leaves.content.before after_number in
@@ -141,12 +142,12 @@ returns-clause-undamaged g c = if_err_map c.ask_side-2.result (λ e none told fi
     c.take.ensures.rest in
     let read : AreReadTo (level_of c.in_ok-uid.uid) c.args.self.now.operands =
     read_level c.args.self.now.operands c.args.ask.now (level_of c.in_ok-uid.uid)
-    c.in_ok-uid.ensures.level (first_fits c.args.ask.now c.args.self.now _ first) in
-    none told (c.in_ok-ask_side.ensures.holds after_low
-    (subst (λ (o : Operands). AreReadTo (level_of c.in_ok-uid.uid) o) (sym same) read)
-    (c.in_ok-uid.ensures.holds after_number
-    (c.in_ok-take.ensures.holds after_take
-    (first_holds c.args.ask.now c.args.self.now _ first))))) c.ask_side-2.ensures.undamaged
+    c.in_ok-uid.ensures.level (first_fits None c.args.ask.now c.args.self.now _ first) in
+    none told None (c.in_ok-ask_side.ensures.holds after_low
+    (subst (λ (o : Operands). AreReadTo (level_of c.in_ok-uid.uid) o) (sym same) read) None tt tt
+    (c.in_ok-uid.ensures.holds after_number None
+    (c.in_ok-take.ensures.holds after_take None
+    (first_holds None c.args.ask.now c.args.self.now _ first))))) c.ask_side-2.ensures.undamaged
 
 -- and at most two were put
 pub returns-clause-load : goal.returns-clause-load

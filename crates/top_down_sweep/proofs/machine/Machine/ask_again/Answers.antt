@@ -4,7 +4,7 @@ use Rattle.node_reading.proofs.NodeReading.{if_handed}
 use Rattle.top_down_sweep.proofs.Holding.{first_holds, first_fits, again_fits, if_err_map}
 use Rattle.std.proofs.Common.{[], ◌∷◌, sym, subst, arith}
 use Rattle.top_down_sweep.specs.declared.ask.Ask.{Ask}
-use Rattle.top_down_sweep.specs.Waiting.{Fits}
+use Rattle.top_down_sweep.specs.Waiting.{Fits, KnowsAsk}
 use Rattle.top_down_sweep.specs.Changes.{JoinAsks}
 use Rattle.top_down_sweep.proofs.Doing.{then_more}
 use Rattle.top_down_sweep.proofs.machine.Machine.ask_again.Goals as goal
@@ -17,23 +17,24 @@ returns-clause-does g c = then_more g.S.Shelf.tells g.S.Shelf.world g.S.Shelf.fa
 
 -- it was the first of those that wait, and fits with the members that were read
 pub returns-clause-holds : goal.returns-clause-holds
-returns-clause-holds g c = on_ok_weaker c.push.result (λ holds told first.
+returns-clause-holds g c = on_ok_weaker c.push.result (λ holds told bytes knows first.
     holds told (subst (λ (b : Ask). Fits c.take.new.self.operands b)
     (sym c.new.ensures) (again_fits c.args.self.now c.take.new.self c.args.ask.now _
-    c.take.ensures.rest c.requires.later (first_fits c.args.ask.now c.args.self.now _ first)))
-    (c.in_ok-take.ensures.holds (c.push.ensures.does.leaves.content.before told)
-    (first_holds c.args.ask.now c.args.self.now _ first))) c.push.ensures.holds
+    c.take.ensures.rest c.requires.later (first_fits bytes c.args.ask.now c.args.self.now _ first))) bytes
+    (subst (λ (b : Ask). KnowsAsk bytes b) (sym c.new.ensures) knows)
+    (c.in_ok-take.ensures.holds (c.push.ensures.does.leaves.content.before told) bytes
+    (first_holds bytes c.args.ask.now c.args.self.now _ first))) c.push.ensures.holds
 
 -- no damage is found
 pub returns-clause-undamaged : goal.returns-clause-undamaged
-returns-clause-undamaged g c = if_err_map c.push.result (λ e none told first. none told
-    (c.in_ok-take.ensures.holds (c.push.ensures.does.leaves.content.before told)
-    (first_holds c.args.ask.now c.args.self.now _ first))) c.push.ensures.undamaged
+returns-clause-undamaged g c = if_err_map c.push.result (λ e none told bytes first. none told bytes
+    (c.in_ok-take.ensures.holds (c.push.ensures.does.leaves.content.before told) bytes
+    (first_holds bytes c.args.ask.now c.args.self.now _ first))) c.push.ensures.undamaged
 
 pub returns-in_err-take-clause-undamaged : goal.returns-in_err-take-clause-undamaged
 returns-in_err-take-clause-undamaged g c = if_handed _ c.from_residual.result _
-    c.from_residual.ensures.1 (λ told first. c.in_err-take.ensures.undamaged told
-    (first_holds c.args.ask.now c.args.self.now _ first))
+    c.from_residual.ensures.1 (λ told bytes first. c.in_err-take.ensures.undamaged told bytes
+    (first_holds bytes c.args.ask.now c.args.self.now _ first))
 
 -- it was the first one, and another one joins the others
 pub returns-clause-list : goal.returns-clause-list

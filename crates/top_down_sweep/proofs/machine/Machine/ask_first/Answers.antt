@@ -9,6 +9,9 @@ use Rattle.top_down_sweep.specs.declared.ask.Members.{Members}
 use Rattle.top_down_sweep.specs.Soundness.{is_sound}
 use Rattle.top_down_sweep.proofs.Holding.{fresh_fits, holds_placed, if_err_map}
 use Rattle.top_down_sweep.proofs.SoundAsks.{root_sound}
+use Rattle.top_down_sweep.specs.Waiting.{KnowsAsk}
+use Rattle.top_down_sweep.specs.Knowing.{KnowsMembers}
+use Rattle.top_down_sweep.proofs.Known.{some_on, tuple_known}
 use Rattle.std.specs.Prelude.{None}
 use Rattle.std.proofs.Common.{◌≡◌, true, [], ◌∷◌, refl, ◌∙◌, subst, sym, ap}
 use Rattle.rec_words.specs.Words.{node_word}
@@ -33,8 +36,10 @@ returns-clause-holds g c =
     let place : Place = record m.place {
       phase = phases.Asking (record { root = c.in-Some-of.root; last = None });
     } in
-    on_ok_weaker c.push.result (λ holds told unread asks. holds told (fresh_fits m.operands _ unread)
-    (holds_placed m (record m { place = place }) place _ refl asks)) c.push.ensures.holds
+    on_ok_weaker c.push.result (λ holds told unread bytes knows asks. holds told (fresh_fits m.operands _ unread) bytes
+    (subst (λ (a : Ask). KnowsAsk bytes a) (sym c.new.ensures) (some_on bytes (λ b known.
+    subst (λ (ms : Members). KnowsMembers b ms) (sym c.of-2.ensures) (tuple_known b c.args.tuple.now known)) knows))
+    (holds_placed bytes m (record m { place = place }) place _ refl asks)) c.push.ensures.holds
 
 pub returns-clause-undamaged : goal.returns-clause-undamaged
 returns-clause-undamaged g c =
@@ -42,8 +47,8 @@ returns-clause-undamaged g c =
     let place : Place = record m.place {
       phase = phases.Asking (record { root = c.in-Some-of.root; last = None });
     } in
-    if_err_map c.push.result (λ e none told asks. none told
-    (holds_placed m (record m { place = place }) place _ refl asks)) c.push.ensures.undamaged
+    if_err_map c.push.result (λ e none told bytes asks. none told bytes
+    (holds_placed bytes m (record m { place = place }) place _ refl asks)) c.push.ensures.undamaged
 
 -- one ask more waits
 pub returns-clause-weight : goal.returns-clause-weight

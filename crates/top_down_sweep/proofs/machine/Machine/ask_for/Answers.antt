@@ -4,7 +4,9 @@ use Rattle.std.proofs.Common.{◌≡◌, ◌∙◌, true, [], ◌∷◌, subst, 
 use Rattle.std.proofs.lemmas.Result.{on_ok_weaker}
 use Rattle.top_down_sweep.specs.declared.ask.Members.{Members}
 use Rattle.top_down_sweep.specs.Soundness.{is_sound}
-use Rattle.top_down_sweep.specs.Waiting.{Fits}
+use Rattle.top_down_sweep.specs.Waiting.{Fits, KnowsAsk}
+use Rattle.top_down_sweep.specs.Knowing.{KnowsMembers}
+use Rattle.top_down_sweep.proofs.Known.{some_on, tuple_known}
 use Rattle.rec_words.specs.Words.{level_of}
 use Rattle.level_queue.specs.Queues.{last_of, IsNoLess}
 use Rattle.top_down_sweep.specs.Items.{ask_cmp}
@@ -27,10 +29,12 @@ push-requires-clause-order g c = subst (λ (a : Ask). IsNoLess ask_cmp (last_of 
 
 -- it fits, since no operand was read past its source's level
 pub returns-clause-holds : goal.returns-clause-holds
-returns-clause-holds g c = on_ok_weaker c.push.result (λ holds told read.
+returns-clause-holds g c = on_ok_weaker c.push.result (λ holds told read bytes knows.
     holds told (subst (λ (a : Ask). Fits c.args.self.now.operands a)
     (sym c.new.ensures) (deeper_fits c.args.self.now.operands (level_of c.args.source.uid) _
-    (side_deeper c.args.tuple.now _ _ c.in-Some.ensures.1 c.requires.deeper) read)))
+    (side_deeper c.args.tuple.now _ _ c.in-Some.ensures.1 c.requires.deeper) read)) bytes
+    (subst (λ (a : Ask). KnowsAsk bytes a) (sym c.new.ensures) (some_on bytes (λ b known.
+    subst (λ (m : Members). KnowsMembers b m) (sym c.of.ensures) (tuple_known b c.args.tuple.now known)) knows)))
     c.push.ensures.holds
 
 -- it is the ask for the tuple

@@ -6,7 +6,23 @@ use Rattle.top_down.specs.Asks.{side_arcs}
 use Rattle.arc_file.specs.declared.arc.Arc.{Arc}
 use Rattle.std.proofs.lemmas.Result.{on_ok_weaker}
 use Rattle.std.proofs.Common.{◌∙◌, ◌++◌, ap, sym, subst, append-nil}
+use Rattle.top_down_sweep.proofs.Known.{some_both, below_known}
 use Rattle.top_down_sweep.proofs.machine.Machine.ask_side.Goals as goal
+
+-- where the side is constant the asks that wait stay
+pub returns-in-End-clause-holds : goal.returns-in-End-clause-holds
+returns-in-End-clause-holds g c = on_ok_weaker c.put.result (λ holds told read bytes stays knows. holds told bytes)
+    c.put.ensures.holds
+
+-- and else the tuple is one that the files know
+pub returns-in-Go-clause-holds : goal.returns-in-Go-clause-holds
+returns-in-Go-clause-holds g c = on_ok_weaker c.ask_for.result (λ holds told read bytes stays knows.
+    let rule = g.O.Operation.rule c.args.operation.now in
+    holds told read bytes (some_both bytes (λ b stay known. below_known rule (g.O.Operation.begins c.args.operation.now) b
+    (level_of c.args.uid) c.args.high c.args.members.now c.in-Go.tuple stay known
+    (goal_from rule _ c.args.uid c.args.high _ _ _ c.args.members.now _ _ c.level_at.ensures.level
+    c.on_side-lows.ensures c.on_side-highs.ensures c.below-below.ensures c.goal.ensures c.in-Go.is)) stays knows))
+    c.ask_for.ensures.holds
 
 -- the side is constant
 pub returns-in-End-clause-served : goal.returns-in-End-clause-served

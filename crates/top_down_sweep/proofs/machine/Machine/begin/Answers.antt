@@ -1,6 +1,9 @@
 use Rattle.top_down_sweep.specs.declared.place.Phase.TheVariants as phases
 use Rattle.top_down.specs.Rules.{Rule}
-use Rattle.std.proofs.Common.{◌∙◌, sym, ap, subst}
+use Rattle.std.proofs.Common.{◌≡◌, ◌∙◌, sym, ap, subst}
+use Rattle.top_down.specs.declared.tuple.Goal.TheVariants.{Go}
+use Rattle.top_down_sweep.specs.Meaning.{roots_of}
+use Rattle.top_down_sweep.proofs.Known.{kept_asks, first_known}
 use Rattle.list_laws.proofs.AnswerLaws.{on_ok_both}
 use Rattle.top_down_sweep.proofs.TurnKeeps.{works_remain, constant_remains, ended_left}
 use Rattle.top_down_sweep.proofs.FuelLaws.{end_falls}
@@ -18,7 +21,7 @@ returns-in-End-clause-falls g c = end_falls _ c.end.new.self _ c.end.result c.en
 -- no arc was put
 pub returns-in-End-clause-trusts : goal.returns-in-End-clause-trusts
 returns-in-End-clause-trusts g c = on_ok_weaker c.end.result (λ trusts told fresh.
-    trusts told (none_ordered c.args.self.now.writer (g.S.Shelf.world c.args.shelf.now) fresh.2))
+    trusts told _ _ (none_ordered c.args.self.now.writer (g.S.Shelf.world c.args.shelf.now) fresh.2))
     c.end.ensures.trusts
 
 -- the root's ask waits
@@ -27,8 +30,17 @@ returns-in_ok-ask_first-in-Go-clause-in_step g c told = step_at c.ask_first.new.
     c.in_ok-ask_first-in-Go.ensures.phase (c.in_ok-ask_first-in-Go.ensures.fit.at_work told)
 
 pub returns-in_ok-ask_first-in-Go-clause-trusts : goal.returns-in_ok-ask_first-in-Go-clause-trusts
-returns-in_ok-ask_first-in-Go-clause-trusts g c told fresh = trusted_at c.ask_first.new.self _
-    c.in_ok-ask_first-in-Go.ensures.phase (c.in_ok-ask_first-in-Go.ensures.holds told fresh.1 fresh.0)
+returns-in_ok-ask_first-in-Go-clause-trusts g c told fresh =
+    let rule = g.O.Operation.rule c.args.operation.now in
+    let begins = g.O.Operation.begins c.args.operation.now in
+    let says : rule.goal (begins (roots_of c.args.self.now.operands)) ≡ Go c.in-Go.tuple =
+    ap rule.goal (sym (c.roots-roots.ensures ∙ ap begins c.roots.ensures)) ∙ sym c.goal.ensures ∙ c.in-Go.is in
+    trusted_at rule begins c.ask_first.new.self _ c.in_ok-ask_first-in-Go.ensures.phase
+    (kept_asks g.S.Shelf.tells g.S.Shelf.world g.S.Shelf.faults 48 3 _ _ c.args.self.now c.ask_first.new.self
+    c.ask_first.result rule begins c.requires.fit.sound c.ask_first.ensures.does told
+    (λ bytes stays of holds. c.in_ok-ask_first-in-Go.ensures.holds told fresh.1 bytes
+    (first_known rule begins c.args.self.now _ c.in-Go.tuple bytes c.requires.fit.sound.operands fresh.0.some.1.reading
+    says stays of) holds) fresh.0)
     (c.in_ok-ask_first-in-Go.ensures.ordered told (subst (λ p. IsOrderedAt p c.args.self.now
     (g.S.Shelf.world c.args.shelf.now)) (sym c.requires.phase) fresh.2))
 

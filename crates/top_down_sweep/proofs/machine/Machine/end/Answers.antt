@@ -25,7 +25,7 @@ returns-clause-files g c told k stands =
 
 -- they stay, and where they were in order they are so
 pub returns-clause-trusts : goal.returns-clause-trusts
-returns-clause-trusts g c told o =
+returns-clause-trusts g c told rule begins o =
     let held = c.in_ok-made.ensures.arcs told o.inner o.ends o.held in
     record {
       inner = o.inner;

@@ -7,7 +7,9 @@ use Rattle.top_down_sweep.proofs.Phases.{step_at, trusted_at}
 use Rattle.top_down_sweep.proofs.Orders.{put_at, put_kept, put_ordered}
 use Rattle.top_down_sweep.specs.declared.machine.Machine.{Machine}
 use Rattle.std.proofs.Common.{◌∙◌, ap, sym, subst, arith}
-use Rattle.std.specs.Prelude.{Some, IfSome, IsTrue}
+use Rattle.std.specs.Prelude.{Option, Some, None, IfSome, IsTrue}
+use Rattle.top_down_sweep.specs.Knowing.{FileBytes}
+use Rattle.top_down_sweep.proofs.Known.{shown_asks, handled_asks}
 use Rattle.top_down_sweep.specs.Calls.{IsFirst}
 use Rattle.top_down_sweep.specs.Waiting.{HoldsSome, HoldsFirst}
 use Rattle.top_down_sweep.specs.Trusting.{working_holds}
@@ -65,13 +67,19 @@ returns-clause-trusts g c told (holds, put) =
     let mid = c.handle.ensures.does.leaves.content.before told in
     let s = c.args.asking.now in
     let old = g.S.Shelf.world c.args.shelf.now in
-    let first : HoldsFirst c.ask.result c.first_ask.new.self (g.S.Shelf.world c.first_ask.new.shelf) =
-    subst (λ found. IfSome found (λ a. IsTrue (g.S.Shelf.tells c.first_ask.new.shelf)
-    → HoldsSome c.args.self.now old
-    → HoldsFirst a c.first_ask.new.self (g.S.Shelf.world c.first_ask.new.shelf)))
-    (c.in-Some.is ∙ ap Some (sym c.ask.ensures.value)) c.in_ok-first.ensures.holds mid holds in
-    trusted_at c.handle.new.self _ c.in_ok-handle.ensures.phase
-    (c.in_ok-handle.ensures.holds told first)
+    let rule = g.O.Operation.rule c.args.operation.now in
+    let begins = g.O.Operation.begins c.args.operation.now in
+    trusted_at rule begins c.handle.new.self _ c.in_ok-handle.ensures.phase
+    (handled_asks g.S.Shelf.tells g.S.Shelf.world g.S.Shelf.faults 105 6 _ _ c.first_ask.new.self c.handle.new.self
+    c.handle.result rule begins c.ask.result c.in_ok-first.ensures.fit.sound c.handle.ensures.does told
+    (c.in_ok-handle.ensures.holds told)
+    (shown_asks g.S.Shelf.tells g.S.Shelf.world g.S.Shelf.faults 8 0 _ _ c.args.self.now c.first_ask.new.self
+    c.first_ask.result rule begins c.ask.result c.requires.fit.sound c.first_ask.ensures.does mid
+    (subst (λ found. IfSome found (λ a. IsTrue (g.S.Shelf.tells c.first_ask.new.shelf)
+    → (bytes : Option FileBytes) → HoldsSome bytes c.args.self.now (g.S.Shelf.world c.args.shelf.now)
+    → HoldsFirst bytes a c.first_ask.new.self (g.S.Shelf.world c.first_ask.new.shelf)))
+    (c.in-Some.is ∙ ap Some (sym c.ask.ensures.value)) c.in_ok-first.ensures.holds
+    mid) holds))
     (c.in_ok-handle.ensures.ordered told (put_at c.first_ask.new.self
     (g.S.Shelf.world c.first_ask.new.shelf) s
     (ap (λ (m : Machine). m.place.phase) c.first_ask.ensures.rest ∙ c.requires.phase)
@@ -83,7 +91,7 @@ pub returns-in_default-clause-trusts : goal.returns-in_default-clause-trusts
 returns-in_default-clause-trusts g c = on_ok_weaker c.end.result (λ trusts told both.
     let mid = c.end.ensures.does.leaves.content.before told in
     let s = c.args.asking.now in
-    trusts told (put_ordered s c.first_ask.new.self (g.S.Shelf.world c.first_ask.new.shelf)
+    trusts told _ _ (put_ordered s c.first_ask.new.self (g.S.Shelf.world c.first_ask.new.shelf)
     (put_kept s c.args.self.now c.first_ask.new.self (g.S.Shelf.world c.args.shelf.now)
     (g.S.Shelf.world c.first_ask.new.shelf) c.first_ask.ensures.last (c.in_ok-first.ensures.arcs mid)
     both.1))) c.end.ensures.trusts
@@ -91,20 +99,25 @@ returns-in_default-clause-trusts g c = on_ok_weaker c.end.result (λ trusts told
 -- damage is that of an operand where the ask is handled, and else there is none
 pub returns-in_err-first-clause-damage : goal.returns-in_err-first-clause-damage
 returns-in_err-first-clause-damage g c = if_handed _ c.from_residual.result _ c.from_residual.ensures.1
-    (λ told holds. no_damage _ _ _ (c.in_err-first.ensures.undamaged told holds))
+    (λ told holds. no_damage _ _ _ _ _ (c.in_err-first.ensures.undamaged told None holds.some))
 
 pub returns-in_default-clause-damage : goal.returns-in_default-clause-damage
 returns-in_default-clause-damage g c = if_err_map c.end.result
-    (λ e none told holds. no_damage _ _ e none) c.end.ensures.undamaged
+    (λ e none told holds. no_damage _ _ _ _ e none) c.end.ensures.undamaged
 
 pub returns-in_err-handle-clause-damage : goal.returns-in_err-handle-clause-damage
 returns-in_err-handle-clause-damage g c = if_handed _ c.from_residual-in_err-handle.result _
-    c.from_residual-in_err-handle.ensures.1 (λ told holds. c.in_err-handle.ensures.damage told
+    c.from_residual-in_err-handle.ensures.1 (λ told holds.
+    let mid = c.handle.ensures.does.leaves.content.before told in
+    c.in_err-handle.ensures.damage told
+    (shown_asks g.S.Shelf.tells g.S.Shelf.world g.S.Shelf.faults 8 0 _ _ c.args.self.now c.first_ask.new.self
+    c.first_ask.result (g.O.Operation.rule c.args.operation.now) (g.O.Operation.begins c.args.operation.now)
+    c.ask.result c.requires.fit.sound c.first_ask.ensures.does mid
     (subst (λ found. IfSome found (λ a. IsTrue (g.S.Shelf.tells c.first_ask.new.shelf)
-    → HoldsSome c.args.self.now (g.S.Shelf.world c.args.shelf.now)
-    → HoldsFirst a c.first_ask.new.self (g.S.Shelf.world c.first_ask.new.shelf)))
+    → (bytes : Option FileBytes) → HoldsSome bytes c.args.self.now (g.S.Shelf.world c.args.shelf.now)
+    → HoldsFirst bytes a c.first_ask.new.self (g.S.Shelf.world c.first_ask.new.shelf)))
     (c.in-Some.is ∙ ap Some (sym c.ask.ensures.value)) c.in_ok-first.ensures.holds
-    (c.handle.ensures.does.leaves.content.before told) holds))
+    mid) holds))
 
 -- where no ask is left, what was put is of the task
 pub returns-in_default-clause-keeps : goal.returns-in_default-clause-keeps
@@ -149,7 +162,7 @@ returns-in_default-clause-fewer g c told t rule h = ended_left t (phases.Asking 
 -- where something of a task remains no damage is found
 pub returns-in_err-first-clause-undamaged : goal.returns-in_err-first-clause-undamaged
 returns-in_err-first-clause-undamaged g c = if_handed _ c.from_residual.result _
-    c.from_residual.ensures.1 (λ told t h. c.in_err-first.ensures.undamaged told
+    c.from_residual.ensures.1 (λ told t h. c.in_err-first.ensures.undamaged told None
     (working_holds t c.args.asking.now c.args.self.now _ h))
 
 pub returns-in_err-handle-clause-undamaged : goal.returns-in_err-handle-clause-undamaged

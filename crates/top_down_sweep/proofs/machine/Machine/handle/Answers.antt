@@ -1,5 +1,7 @@
 use Rattle.list_laws.proofs.AnswerLaws.{on_ok_both}
-use Rattle.top_down_sweep.proofs.Holding.{if_err_map, first_holds}
+use Rattle.top_down_sweep.proofs.Holding.{if_err_map, first_holds, first_hands, first_knows}
+use Rattle.top_down_sweep.proofs.Known.{known_with}
+use Rattle.std.specs.Prelude.{None}
 use Rattle.top_down_sweep.specs.Trusting.{handling_holds}
 use Rattle.top_down_sweep.proofs.TurnKeeps.{again_works, advances_at}
 use Rattle.top_down_sweep.proofs.Orders.{put_of, put_at, put_kept, put_later}
@@ -94,30 +96,51 @@ returns-in-None-clause-falls g c = falls_taken c.args.self.now c.answer.new.self
 
 -- the ask is the first of those that wait
 pub returns-then-took_last-clause-holds : goal.returns-then-took_last-clause-holds
-returns-then-took_last-clause-holds g c = on_ok_weaker c.take.result (λ holds told first.
-    holds told (first_holds c.args.ask.now c.args.self.now _ first)) c.take.ensures.holds
+returns-then-took_last-clause-holds g c = on_ok_weaker c.take.result (λ holds told bytes stays of first.
+    holds told bytes (first_holds bytes c.args.ask.now c.args.self.now _ first)) c.take.ensures.holds
 
 pub returns-then-not-is_due-clause-holds : goal.returns-then-not-is_due-clause-holds
-returns-then-not-is_due-clause-holds g c = on_ok_weaker c.take-then-not-is_due.result (λ holds told first.
-    holds told (first_holds c.args.ask.now c.args.self.now _ first)) c.take-then-not-is_due.ensures.holds
+returns-then-not-is_due-clause-holds g c = on_ok_weaker c.take-then-not-is_due.result (λ holds told bytes stays of first.
+    holds told bytes (first_holds bytes c.args.ask.now c.args.self.now _ first)) c.take-then-not-is_due.ensures.holds
+
+pub returns-then-want-clause-holds : goal.returns-then-want-clause-holds
+returns-then-want-clause-holds g c = on_ok_weaker c.read_wanted.result (λ holds told bytes stays of first.
+    holds told bytes of first) c.read_wanted.ensures.holds
+
+-- with the pointers of the nodes at hand it names what the files know
+pub returns-in-Some-clause-holds : goal.returns-in-Some-clause-holds
+returns-in-Some-clause-holds g c = on_ok_weaker c.ask_again.result (λ holds told bytes stays of first.
+    holds told bytes (known_with c.args.self.now c.args.ask.now c.filled-members.result bytes c.filled-members.ensures
+    (first_hands bytes _ _ _ first) (first_knows bytes _ _ _ first)) first) c.ask_again.ensures.holds
+
+pub returns-in-None-clause-holds : goal.returns-in-None-clause-holds
+returns-in-None-clause-holds g c = on_ok_weaker c.answer.result (λ holds told bytes stays of first.
+    holds told bytes stays (known_with c.args.self.now c.args.ask.now c.filled-members.result bytes
+    c.filled-members.ensures (first_hands bytes _ _ _ first) (first_knows bytes _ _ _ first)) first)
+    c.answer.ensures.holds
 
 -- damage is that of an operand where the next node is read, and else there is none
+pub returns-then-want-clause-damage : goal.returns-then-want-clause-damage
+returns-then-want-clause-damage g c = if_err_map c.read_wanted.result (λ e damage told first. damage told
+    (g.O.Operation.rule c.args.operation.now)
+    (g.O.Operation.begins c.args.operation.now) first) c.read_wanted.ensures.damage
+
 pub returns-then-took_last-clause-damage : goal.returns-then-took_last-clause-damage
-returns-then-took_last-clause-damage g c = if_err_map c.take.result (λ e none told first. no_damage _ _ e
-    (none told (first_holds c.args.ask.now c.args.self.now _ first))) c.take.ensures.undamaged
+returns-then-took_last-clause-damage g c = if_err_map c.take.result (λ e none told first. no_damage _ _ _ _ e
+    (none told None (first_holds None c.args.ask.now c.args.self.now _ first.some))) c.take.ensures.undamaged
 
 pub returns-then-not-is_due-clause-damage : goal.returns-then-not-is_due-clause-damage
 returns-then-not-is_due-clause-damage g c = if_err_map c.take-then-not-is_due.result
-    (λ e none told first. no_damage _ _ e (none told
-    (first_holds c.args.ask.now c.args.self.now _ first))) c.take-then-not-is_due.ensures.undamaged
+    (λ e none told first. no_damage _ _ _ _ e (none told None
+    (first_holds None c.args.ask.now c.args.self.now _ first.some))) c.take-then-not-is_due.ensures.undamaged
 
 pub returns-in-Some-clause-damage : goal.returns-in-Some-clause-damage
 returns-in-Some-clause-damage g c = if_err_map c.ask_again.result
-    (λ e none told first. no_damage _ _ e (none told first)) c.ask_again.ensures.undamaged
+    (λ e none told first. no_damage _ _ _ _ e (none told None first.some)) c.ask_again.ensures.undamaged
 
 pub returns-in-None-clause-damage : goal.returns-in-None-clause-damage
 returns-in-None-clause-damage g c = if_err_map c.answer.result
-    (λ e none told first. no_damage _ _ e (none told first)) c.answer.ensures.undamaged
+    (λ e none told first. no_damage _ _ _ _ e (none told None first.some)) c.answer.ensures.undamaged
 
 pub read_wanted-requires-clause-wanted : goal.read_wanted-requires-clause-wanted
 read_wanted-requires-clause-wanted g c = sym c.want.ensures ∙ c.if-want.true
@@ -225,13 +248,13 @@ returns-in-Some-clause-ordered g c = on_ok_both c.ask_again.result (λ last keep
 
 -- where something of a task remains no damage is found
 pub returns-then-took_last-clause-undamaged : goal.returns-then-took_last-clause-undamaged
-returns-then-took_last-clause-undamaged g c = if_err_map c.take.result (λ e none told t h. none told
-    (first_holds c.args.ask.now c.args.self.now _
+returns-then-took_last-clause-undamaged g c = if_err_map c.take.result (λ e none told t h. none told None
+    (first_holds None c.args.ask.now c.args.self.now _
     (handling_holds t c.args.asking.now c.args.ask.now c.args.self.now _ h))) c.take.ensures.undamaged
 
 pub returns-then-not-is_due-clause-undamaged : goal.returns-then-not-is_due-clause-undamaged
 returns-then-not-is_due-clause-undamaged g c = if_err_map c.take-then-not-is_due.result
-    (λ e none told t h. none told (first_holds c.args.ask.now c.args.self.now _
+    (λ e none told t h. none told None (first_holds None c.args.ask.now c.args.self.now _
     (handling_holds t c.args.asking.now c.args.ask.now c.args.self.now _ h)))
     c.take-then-not-is_due.ensures.undamaged
 
@@ -240,9 +263,9 @@ returns-then-want-clause-undamaged g c = if_err_map c.read_wanted.result
     (λ e none told t h. none told t c.args.asking.now h) c.read_wanted.ensures.undamaged
 
 pub returns-in-Some-clause-undamaged : goal.returns-in-Some-clause-undamaged
-returns-in-Some-clause-undamaged g c = if_err_map c.ask_again.result (λ e none told t h. none told
+returns-in-Some-clause-undamaged g c = if_err_map c.ask_again.result (λ e none told t h. none told None
     (handling_holds t c.args.asking.now c.args.ask.now c.args.self.now _ h)) c.ask_again.ensures.undamaged
 
 pub returns-in-None-clause-undamaged : goal.returns-in-None-clause-undamaged
-returns-in-None-clause-undamaged g c = if_err_map c.answer.result (λ e none told t h. none told
+returns-in-None-clause-undamaged g c = if_err_map c.answer.result (λ e none told t h. none told None
     (handling_holds t c.args.asking.now c.args.ask.now c.args.self.now _ h)) c.answer.ensures.undamaged

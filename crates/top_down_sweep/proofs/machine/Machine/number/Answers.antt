@@ -56,8 +56,8 @@ returns-clause-level g c =
 
 -- asks wait as before
 pub returns-clause-holds : goal.returns-clause-holds
-returns-clause-holds g c told holds = holds_placed c.put_inner.new.self _ _ _ refl
-    (c.in_ok-put_inner.ensures.holds told holds)
+returns-clause-holds g c told bytes holds = holds_placed bytes c.put_inner.new.self _ _ _ refl
+    (c.in_ok-put_inner.ensures.holds told bytes holds)
 
 -- it is the tuple that was numbered last
 pub returns-clause-placed : goal.returns-clause-placed

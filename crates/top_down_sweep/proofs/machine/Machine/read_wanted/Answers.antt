@@ -1,15 +1,16 @@
 use Rattle.top_down_sweep.proofs.WorkingOn.{first_has_next, second_has_next, third_has_next}
 use Rattle.top_down_sweep.proofs.ReadKeeps.{first_kept, second_kept, third_kept}
-use Rattle.std.proofs.Common.{◌≡◌, ◌∙◌, true, refl, sym, rules}
+use Rattle.std.proofs.Common.{◌≡◌, ◌∙◌, true, refl, sym, subst, rules}
 use Rattle.std.proofs.lemmas.Result.{on_ok_weaker}
 use Rattle.top_down_sweep.specs.Members.{wants}
 use Rattle.top_down_sweep.proofs.Doing.{does_looked, on_ok}
 use Rattle.top_down_sweep.proofs.OwnRuns.{checkpoint_refuses}
 use Rattle.top_down_sweep.specs.Trusting.{handling_holds}
-use Rattle.std.specs.Prelude.{Err}
+use Rattle.std.specs.Prelude.{None, Err}
+use Rattle.top_down_sweep.specs.Knowing.{FileBytes, KnowsMembers, StaysKnown}
 use Rattle.top_down_sweep.proofs.StandingOn.{arcs_shown}
 use Rattle.top_down_sweep.proofs.OperandReading.{wanted_is, behind_hand}
-use Rattle.top_down_sweep.proofs.Holding.{first_fits, if_err_map, third_wanted, first_files, first_damage, first_read, second_files, second_damage, second_read, third_files, third_damage, third_read}
+use Rattle.top_down_sweep.proofs.Holding.{first_fits, first_node, first_knows, if_err_map, third_wanted, first_files, first_bytes, first_damage, first_read, second_files, second_bytes, second_damage, second_read, third_files, third_bytes, third_damage, third_read}
 use Rattle.top_down_sweep.proofs.machine.Machine.read_wanted.Goals as goal
 
 -- an operand was read past the ask's node
@@ -22,12 +23,12 @@ returns-then-not-fits-clause-does g c =
     c.checkpoint_fault.ensures.says)
 
 pub returns-then-not-fits-clause-damage : goal.returns-then-not-fits-clause-damage
-returns-then-not-fits-clause-damage g c told first = absurd (c.fits.ensures.no c.if-not-fits.true
-    (first_fits c.args.ask.now c.args.self.now _ first))
+returns-then-not-fits-clause-damage g c told rule begins first = absurd (c.fits.ensures.no c.if-not-fits.true
+    (first_fits None c.args.ask.now c.args.self.now _ first.some))
 
 pub returns-then-not-fits-clause-undamaged : goal.returns-then-not-fits-clause-undamaged
 returns-then-not-fits-clause-undamaged g c told t s h = absurd (c.fits.ensures.no c.if-not-fits.true
-    (first_fits c.args.ask.now c.args.self.now _
+    (first_fits None c.args.ask.now c.args.self.now _
     (handling_holds t s c.args.ask.now c.args.self.now _ h)))
 
 -- the first operand's next node
@@ -44,11 +45,14 @@ returns-then-wants-clause-damage g c =
     let a = c.args.ask.now in
     let o = s.operands.first in
     let asked : wants a.key o.hand a.members.first ≡ true = sym c.wants.ensures ∙ c.if-wants.true in
-    if_err_map c.read.result (λ e damaged told first. first_damage s c.read.new.self a _ e
-    c.read.ensures.file c.requires.shown (wanted_is o.hand a.key a.members.first asked)
+    if_err_map c.read.result (λ e damaged told rule begins first. first_damage rule begins s c.read.new.self a _ e
+    c.read.ensures.file (first_node None a s _ first.some) c.requires.shown (wanted_is o.hand a.key a.members.first asked)
     (λ apart. damaged told s.place.variables c.requires.fit.sound.operands.first
-    (first.1.reading apart).first
-    (behind_hand o a.key a.members.first asked (first_fits a s _ first).first)))
+    (first.some.1.reading apart).first
+    (behind_hand o a.key a.members.first asked (first_fits None a s _ first.some).first))
+    (λ apart stays. let same = first_bytes s c.read.new.self _ _ c.read.ensures.file (c.read.ensures.content.did told).run in
+    subst (λ (b : FileBytes). KnowsMembers b a.members) (sym same) (first_knows _ a s _
+    (first.known apart (subst (λ (b : FileBytes). StaysKnown rule begins b) same stays)))))
     c.read.ensures.damaged
 
 pub returns-then-wants-clause-holds : goal.returns-then-wants-clause-holds
@@ -59,6 +63,8 @@ returns-then-wants-clause-holds g c =
     c.read.ensures.hand
     (λ told reading. on_ok_weaker c.read.result
     (λ reads. reads told s.place.variables are.first reading) c.read.ensures.reads)
+    (λ told reading. on_ok_weaker c.read.result
+    (λ below. below told s.place.variables are.first reading) c.read.ensures.below)
     (λ told. (c.read.ensures.content.did told).run)
 
 -- the second operand's next node
@@ -77,12 +83,15 @@ returns-then-wants-2-clause-damage g c =
     let o = s.operands.second in
     let asked : wants a.key o.hand a.members.second ≡ true = sym c.wants-2.ensures
     ∙ c.if-wants-2.true in
-    if_err_map c.read-then-wants-2.result (λ e damaged told first. second_damage s
+    if_err_map c.read-then-wants-2.result (λ e damaged told rule begins first. second_damage rule begins s
     c.read-then-wants-2.new.self a _ e c.read-then-wants-2.ensures.file
-    c.requires.shown (wanted_is o.hand a.key a.members.second asked)
+    (first_node None a s _ first.some) c.requires.shown (wanted_is o.hand a.key a.members.second asked)
     (λ apart. damaged told s.place.variables c.requires.fit.sound.operands.second
-    (first.1.reading apart).second
-    (behind_hand o a.key a.members.second asked (first_fits a s _ first).second)))
+    (first.some.1.reading apart).second
+    (behind_hand o a.key a.members.second asked (first_fits None a s _ first.some).second))
+    (λ apart stays. let same = second_bytes s c.read-then-wants-2.new.self _ _ c.read-then-wants-2.ensures.file (c.read-then-wants-2.ensures.content.did told).run in
+    subst (λ (b : FileBytes). KnowsMembers b a.members) (sym same) (first_knows _ a s _
+    (first.known apart (subst (λ (b : FileBytes). StaysKnown rule begins b) same stays)))))
     c.read-then-wants-2.ensures.damaged
 
 pub returns-then-wants-2-clause-holds : goal.returns-then-wants-2-clause-holds
@@ -94,6 +103,8 @@ returns-then-wants-2-clause-holds g c =
     (λ told reading. on_ok_weaker c.read-then-wants-2.result
     (λ reads. reads told s.place.variables are.second reading)
     c.read-then-wants-2.ensures.reads)
+    (λ told reading. on_ok_weaker c.read-then-wants-2.result
+    (λ below. below told s.place.variables are.second reading) c.read-then-wants-2.ensures.below)
     (λ told. (c.read-then-wants-2.ensures.content.did told).run)
 
 -- the third operand's next node
@@ -112,11 +123,14 @@ returns-clause-damage g c =
     let asked : wants a.key o.hand a.members.third ≡ true = third_wanted _
     _ _ (sym c.wants.ensures ∙ c.if-wants.false) (sym c.wants-2.ensures ∙ c.if-wants-2.false)
     c.requires.wanted in
-    if_err_map c.read-2.result (λ e damaged told first. third_damage s c.read-2.new.self a _
-    e c.read-2.ensures.file c.requires.shown (wanted_is o.hand a.key a.members.third asked)
+    if_err_map c.read-2.result (λ e damaged told rule begins first. third_damage rule begins s c.read-2.new.self a _
+    e c.read-2.ensures.file (first_node None a s _ first.some) c.requires.shown (wanted_is o.hand a.key a.members.third asked)
     (λ apart. damaged told s.place.variables c.requires.fit.sound.operands.third
-    (first.1.reading apart).third
-    (behind_hand o a.key a.members.third asked (first_fits a s _ first).third)))
+    (first.some.1.reading apart).third
+    (behind_hand o a.key a.members.third asked (first_fits None a s _ first.some).third))
+    (λ apart stays. let same = third_bytes s c.read-2.new.self _ _ c.read-2.ensures.file (c.read-2.ensures.content.did told).run in
+    subst (λ (b : FileBytes). KnowsMembers b a.members) (sym same) (first_knows _ a s _
+    (first.known apart (subst (λ (b : FileBytes). StaysKnown rule begins b) same stays)))))
     c.read-2.ensures.damaged
 
 pub returns-clause-holds : goal.returns-clause-holds
@@ -127,6 +141,8 @@ returns-clause-holds g c =
     c.read-2.ensures.hand
     (λ told reading. on_ok_weaker c.read-2.result
     (λ reads. reads told s.place.variables are.third reading) c.read-2.ensures.reads)
+    (λ told reading. on_ok_weaker c.read-2.result
+    (λ below. below told s.place.variables are.third reading) c.read-2.ensures.below)
     (λ told. (c.read-2.ensures.content.did told).run)
 
 -- the files of arcs stay

@@ -25,7 +25,7 @@ returns-in_err-made-clause-saves g c =
       last_is = refl;
       refused = does.refused;
       undamaged = if_handed _ c.from_residual.result _ c.from_residual.ensures.1
-          (λ is holds. subst (λ e. IsNoDamage (handed_on e)) (sym c.in_err-made.ensures.cause) tt);
+          (λ is bytes holds. subst (λ e. IsNoDamage (handed_on e)) (sym c.in_err-made.ensures.cause) tt);
       keeps = refused_ok _ _ c.from_residual.result c.from_residual.ensures.1;
     }
 

@@ -1,30 +1,32 @@
 use Rattle.std.proofs.Common.{sym, subst}
+use Rattle.std.specs.Prelude.{None}
 use Rattle.top_down_sweep.specs.Turns.{TurnsFall}
 use Rattle.top_down_sweep.proofs.Holding.{if_err_map}
 use Rattle.std.proofs.lemmas.Result.{on_ok_weaker}
 use Rattle.top_down_sweep.specs.Meaning.{RemainsIn}
 use Rattle.top_down_sweep.proofs.Phases.{trusts_in}
-use Rattle.top_down_sweep.specs.Trusting.{fresh_trusts}
+use Rattle.top_down_sweep.specs.Trusting.{fresh_holds}
 use Rattle.top_down_sweep.proofs.Doing.{no_damage}
 use Rattle.top_down_sweep.proofs.machine.Machine.turn.Goals as goal
 
 -- what its turns put stands there in each phase
 pub returns-in-Fresh-clause-trusts : goal.returns-in-Fresh-clause-trusts
 returns-in-Fresh-clause-trusts g c = on_ok_weaker c.begin.result (λ trusts told old.
-    trusts told (trusts_in c.args.self.now _ _ c.in-Fresh.is old)) c.begin.ensures.trusts
+    trusts told (trusts_in _ _ c.args.self.now _ _ c.in-Fresh.is old)) c.begin.ensures.trusts
 
 pub returns-in-Asking-clause-trusts : goal.returns-in-Asking-clause-trusts
 returns-in-Asking-clause-trusts g c = on_ok_weaker c.go_on.result (λ trusts told old.
-    trusts told (trusts_in c.args.self.now _ _ c.in-Asking.is old)) c.go_on.ensures.trusts
+    trusts told (trusts_in _ _ c.args.self.now _ _ c.in-Asking.is old)) c.go_on.ensures.trusts
 
 -- and where it does, damage is that of an operand
 pub returns-in-Fresh-clause-damage : goal.returns-in-Fresh-clause-damage
-returns-in-Fresh-clause-damage g c = if_err_map c.begin.result (λ e none told old. no_damage _ _ e
-    (none told (trusts_in c.args.self.now _ _ c.in-Fresh.is old).0)) c.begin.ensures.undamaged
+returns-in-Fresh-clause-damage g c = if_err_map c.begin.result (λ e none told old. no_damage _ _ _ _ e
+    (none told None (trusts_in (g.O.Operation.rule c.args.operation.now) (g.O.Operation.begins c.args.operation.now)
+    c.args.self.now _ _ c.in-Fresh.is old).0.some)) c.begin.ensures.undamaged
 
 pub returns-in-Asking-clause-damage : goal.returns-in-Asking-clause-damage
 returns-in-Asking-clause-damage g c = if_err_map c.go_on.result (λ e damage told old. damage told
-    (trusts_in c.args.self.now _ _ c.in-Asking.is old).0) c.go_on.ensures.damage
+    (trusts_in _ _ c.args.self.now _ _ c.in-Asking.is old).0) c.go_on.ensures.damage
 
 -- what remains of a task in each phase
 pub returns-in-Fresh-clause-keeps : goal.returns-in-Fresh-clause-keeps
@@ -42,8 +44,8 @@ returns-in-Asking-clause-keeps g c = on_ok_weaker c.go_on.result (λ keeps told 
 -- where something remains no damage is found
 pub returns-in-Fresh-clause-undamaged : goal.returns-in-Fresh-clause-undamaged
 returns-in-Fresh-clause-undamaged g c = if_err_map c.begin.result (λ e none told t remains. none told
-    (fresh_trusts t _ c.args.self.now _ (subst (λ p. RemainsIn t (g.O.Operation.begins c.args.operation.now) p
-    c.args.self.now (g.S.Shelf.world c.args.shelf.now)) c.in-Fresh.is remains)).0) c.begin.ensures.undamaged
+    None (fresh_holds t _ c.args.self.now _ (subst (λ p. RemainsIn t (g.O.Operation.begins c.args.operation.now) p
+    c.args.self.now (g.S.Shelf.world c.args.shelf.now)) c.in-Fresh.is remains))) c.begin.ensures.undamaged
 
 pub returns-in-Asking-clause-undamaged : goal.returns-in-Asking-clause-undamaged
 returns-in-Asking-clause-undamaged g c = if_err_map c.go_on.result (λ e none told t remains.

@@ -1,8 +1,12 @@
-use Rattle.node_reading.specs.Reading.{bytes_of}
+use Rattle.node_reading.specs.Reading.{bytes_of, count_of, IsItsNode, Rises}
+use Rattle.node_file.specs.Readers.{left_of}
+use Rattle.shelf_model.specs.World.{file}
+use Rattle.top_down_sweep.specs.Knowing.{KnowsBelow}
+use Rattle.top_down_sweep.proofs.Known.{node_below}
 use Rattle.top_down_sweep.specs.declared.operand.Operand.{Operand}
 use Rattle.top_down_sweep.proofs.OperandNext.{reads_next, next_undamaged, never_passed}
 use Rattle.std.proofs.Common.{◌≡◌, ◌<◌, ◌∙◌, sym, subst, arith, tests}
-use Rattle.std.specs.Prelude.{Some, Ok, Err}
+use Rattle.std.specs.Prelude.{Option, Some, Ok, Err}
 use Rattle.rec_words.specs.declared.node.Node.{Node}
 use Rattle.node_reading.proofs.NodeReading.{if_handed, gave}
 use Rattle.top_down_sweep.proofs.OperandReading.{fault_read, next_refused, same_some}
@@ -109,3 +113,30 @@ returns-in_default-clause-undamaged g c told r read next =
     absurd (never_passed c.next.new.self
     (bytes_of c.args.self.now.reader (g.S.Shelf.world c.args.shelf.now)) c.args.key r c.in_ok-hand.hand
     (c.in_ok-hand.ensures.items told read.reads.reads r.unread read.left) later next)
+
+-- the node that was read leads to pointers that its file names
+pub returns-in-Some-clause-below : goal.returns-in-Some-clause-below
+returns-in-Some-clause-below g c told n is reading =
+    let gives = gave g.S.Shelf.tells g.S.Shelf.world g.S.Shelf.faults c.args.shelf.now
+    c.next.new.shelf c.args.self.now.reader c.next.new.self (Ok c.in_ok-hand.hand) is.begun
+    (λ _. reading) (record {
+      file_is = c.in_ok-hand.ensures.file;
+      trailer_is = c.in_ok-hand.ensures.trailer;
+      goes = c.in_ok-hand.ensures.place;
+      place = c.in_ok-hand.ensures.damage;
+      reads = c.in_ok-hand.ensures.reads;
+      value = c.in_ok-hand.ensures.value;
+      items = c.in_ok-hand.ensures.items;
+      content = c.in_ok-hand.ensures.content;
+      faults = c.in_ok-hand.ensures.faults;
+    }) in
+    let old = g.S.Shelf.world c.args.shelf.now in
+    let bytes = bytes_of c.args.self.now.reader old in
+    let node : IsItsNode c.next.new.self bytes (Ok (Some c.in-Some.node)) =
+    subst (λ (h : Option Node). IsItsNode c.next.new.self bytes (Ok h)) c.in-Some.is (gives.value told) in
+    let rises : Rises c.args.self.now.reader c.next.new.self (Ok (Some c.in-Some.node)) =
+    subst (λ (h : Option Node). Rises c.args.self.now.reader c.next.new.self (Ok h)) c.in-Some.is gives.rises in
+    let among : left_of c.next.new.self < count_of bytes = (let fewer = rises.1 in let within = c.args.self.now.reader.within in
+    let count = reading.count in omega (arith, fewer, within, count)) in
+    subst (λ f. KnowsBelow (file old f).bytes c.in_ok-hand.hand) is.file_is
+    (subst (KnowsBelow bytes) (sym c.in-Some.is) (node_below _ (left_of c.next.new.self) bytes c.in-Some.node node among))

@@ -16,6 +16,7 @@ use Rattle.node_reading.proofs.Staying.{looked_stays}
 use Rattle.top_down_sweep.proofs.Starting.{only_looked, then_cut, others_uncut}
 use Rattle.top_down_sweep.proofs.Holding.{operands_still, looked_same}
 use Rattle.top_down_sweep.proofs.OperandsStay.{task_on}
+use Rattle.top_down_sweep.proofs.Known.{none_asks}
 use Rattle.top_down_sweep.specs.declared.machine.Machine.{Machine}
 use Rattle.top_down_sweep.specs.declared.place.Phase.TheVariants.{Fresh}
 use Rattle.top_down_sweep.proofs.sweep.TopDownSweep.start.Goals as goal
@@ -61,17 +62,12 @@ returns-clause-trusts g c told =
       parts = c.args.parts;
     } in
     let files = c.in_ok-writer.ensures.files in (
-      (
-        [],
-        record {
-          wait = c.start-3.ensures.list (g.S.Shelf.world c.start-2.new.shelf);
-          fit = λ k d within. absurd (omega (arith, within));
-          no_run = λ f made run. c.start-3.ensures.runs f run;
-          reading = λ apart. operands_still m (g.S.Shelf.world c.start.new.shelf) (g.S.Shelf.world c.start-2.new.shelf) c.in_ok-operands.ensures.are
-              (λ f is_apart. others_uncut 2 c.args.files.inner c.args.files.ends f _ _ (c.start-2.ensures.content.did told) (λ is. is_apart.not_inner (is ∙ sym files.0)) (λ is. is_apart.not_ends (is ∙ sym files.1)))
-              apart (c.in_ok-operands.ensures.reading (c.start-2.ensures.content.before told));
-        },
-      ),
+      none_asks _ _ m (g.S.Shelf.world c.start-2.new.shelf)
+          (c.start-3.ensures.list (g.S.Shelf.world c.start-2.new.shelf)) (λ f made run. c.start-3.ensures.runs f run)
+          c.in_ok-operands.ensures.unread
+          (λ apart. operands_still m (g.S.Shelf.world c.start.new.shelf) (g.S.Shelf.world c.start-2.new.shelf) c.in_ok-operands.ensures.are
+          (λ f is_apart. others_uncut 2 c.args.files.inner c.args.files.ends f _ _ (c.start-2.ensures.content.did told) (λ is. is_apart.not_inner (is ∙ sym files.0)) (λ is. is_apart.not_ends (is ∙ sym files.1)))
+          apart (c.in_ok-operands.ensures.reading (c.start-2.ensures.content.before told))),
       c.in_ok-operands.ensures.unread,
       c.in_ok-writer.ensures.arcs told,
     )

@@ -36,4 +36,5 @@ returns-clause-fewer g c told w remains = c.turn.ensures.fewer told w.task remai
 -- once it has ended, the two files are arcs in their order
 pub returns-clause-ordered : goal.returns-clause-ordered
 returns-clause-ordered g c = on_ok_weaker c.turn.result (λ trusts told old.
-    ended_ordered c.turn.new.self.place.phase c.turn.new.self _ (trusts told old)) c.turn.ensures.trusts
+    ended_ordered (g.O.Operation.rule c.args.self.now.operation) (g.O.Operation.begins c.args.self.now.operation)
+    c.turn.new.self.place.phase c.turn.new.self _ (trusts told old)) c.turn.ensures.trusts
