@@ -47,15 +47,15 @@ pub record ProductCarried {S : Type 0} (tells : S → Bool) (world : S → World
       → calls.IsTrusted rule_of begins_of (sweep_of q) (world after))
   pub head : SameHead blank point
   pub filled : OnOk result (IsFilled (product_accounts.next q) point)
-  pub names : OnOk result (product_saving.names point (sweeps.task_of (sweep_of p)))
+  pub names : OnOk result (product_saving.names point (sweeps.whole_task (sweep_of p)))
   pub fits : OnOk result (product_saving.fits point [])
   pub stands : OnOk result (IsTrue (tells after) → (job : TableWork) → MakesTable p (world before) job
       → product_saving.stands point [] (reads_of (world after)) job (turns_of (sweep_of q) (world after) job))
   pub sure : OnOk result (IsTrue (tells after) → (job : TableWork) → MakesTable p (world before) job
       → (f : FileNo) (n : ℕ) → product_saving.rests point f n → IsSure (product_accounts.makes p)
-      (product_saving.operands (sweeps.task_of (sweep_of p))) (world after) f n)
+      (product_saving.operands (sweeps.whole_task (sweep_of p))) (world after) f n)
   pub still : OnOk result ((later : World) → ((f : FileNo) → IsUsed (product_accounts.makes p)
-      (product_saving.operands (sweeps.task_of (sweep_of p))) point f → file later f ≡ file (world after) f)
+      (product_saving.operands (sweeps.whole_task (sweep_of p))) point f → file later f ≡ file (world after) f)
       → IsStill (calls.IsInStep (sweep_of q)) (calls.IsTrusted rule_of begins_of (sweep_of q)) (MakesTable q)
       (λ w job. turns_of (sweep_of q) w job) (world after) later)
   pub leaves : Carries tells world counts product_accounts 65536 4608 before after p q result

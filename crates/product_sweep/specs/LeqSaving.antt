@@ -11,8 +11,9 @@ use Rattle.sweep_core.specs.declared.checkpoint.Checkpoint.{Checkpoint}
 use Rattle.sweep_core.specs.Carries.{Carries, IsUsed, IsStill}
 use Rattle.sweep_core.specs.Saving.{Saving, SameHead, IsFilled, IsSure, reads_of}
 use Rattle.sweep_core.specs.Sweeps.{IsNoDamage}
+use Rattle.top_down.specs.Operations.{implies}
 use Rattle.table_work.specs.Jobs.{TableWork}
-use Rattle.table_work.specs.TableSaving.{table_saving}
+use Rattle.table_work.specs.TableSaving.{table_saving, saving_of}
 use Rattle.top_down_sweep.specs.declared.product.Product.{Product}
 use Rattle.top_down_sweep.specs.OperationWords.{product_spelling}
 use Rattle.top_down_sweep.specs.Resumes.{top_saving}
@@ -30,7 +31,7 @@ product_words = record {
 }
 
 -- what is seen of the checkpoints of an operator's sweep
-abbrev pub product_saving : Saving SweepTask TableWork
+abbrev pub product_saving : Saving (SweepTask × Product) TableWork
 product_saving = table_saving (top_saving product_words rule_of begins_of)
 
 -- with what the files hold the table of "left and not right" is still to be made, and no more turns remain
@@ -39,15 +40,18 @@ pub record StandsFor (c : Checkpoint) (text : List ℕ) (r : FileNo → List ℕ
   pub right_form : HasForm d.n d.right
   pub makes : product_saving.stands c text r (refutation d) turns
 
--- all else is as it is seen of that table's sweep
+-- all else is as it is seen of that table's sweep, whatever its operator
+abbrev made_saving : Saving SweepTask TableWork
+made_saving = saving_of (record { op = implies }) product_saving
+
 abbrev pub leq_saving : Saving SweepTask Implication
 leq_saving = record {
-  operands = product_saving.operands;
-  text = product_saving.text;
-  names = product_saving.names;
-  fits = product_saving.fits;
-  rests = product_saving.rests;
-  reading = product_saving.reading;
+  operands = made_saving.operands;
+  text = made_saving.text;
+  names = made_saving.names;
+  fits = made_saving.fits;
+  rests = made_saving.rests;
+  reading = made_saving.reading;
   stands = StandsFor;
 }
 

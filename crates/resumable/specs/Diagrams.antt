@@ -17,13 +17,14 @@ use Rattle.copy_sweep.specs.declared.copy.CopyTask.{CopyTask}
 use Rattle.copy_sweep.specs.Resumes.{copy_saving}
 use Rattle.top_down_sweep.specs.declared.beginning.OperandFiles.{OperandFiles}
 use Rattle.top_down_sweep.specs.declared.steps.StepOperation.{StepOperation}
+use Rattle.top_down_sweep.specs.declared.steps.StepOperation.TheVariants.{Choice}
 use Rattle.top_down_sweep.specs.Operations.{rule_of, begins_of, step_of}
 use Rattle.top_down_sweep.specs.OperationWords.{step_spelling}
 use Rattle.top_down_sweep.specs.Resumes.{top_saving}
 use Rattle.top_down_sweep.specs.Sweeps.{SweepTask}
 use Rattle.table_work.specs.Given.{Tables, used_by}
 use Rattle.table_work.specs.Jobs.{TableWork}
-use Rattle.table_work.specs.TableSaving.{table_saving}
+use Rattle.table_work.specs.TableSaving.{table_saving, saving_of}
 use Rattle.table_work.specs.Tables.{work_of}
 use Rattle.reduce_sweep.specs.Remaining.{Diagram}
 use Rattle.reduce_sweep.specs.Resumes as reductions
@@ -52,9 +53,10 @@ step_words = record {
   is_value = step_spelling.is_value;
 }
 
--- what is seen of the checkpoints of the sweep that makes a step's arcs
+-- what is seen of the checkpoints of the sweep that makes a step's arcs: of its files and variables, whatever the
+-- operation
 abbrev pub arcs_saving : Saving SweepTask TableWork
-arcs_saving = table_saving (top_saving step_words rule_of begins_of)
+arcs_saving = saving_of Choice (table_saving (top_saving step_words rule_of begins_of))
 
 -- the arcs of a step of n variables, and its operands
 abbrev pub arcs_of : ℕ → OperandFiles → ℕ → SweepTask

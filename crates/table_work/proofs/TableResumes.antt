@@ -107,7 +107,7 @@ module _ {O : Type 0} (rule : O → Rule) (begins : O → Tuple → Tuple) where
       (left is (padded_work p old job within) within.makes.remains)
 
   -- a checkpoint stands for it
-  pub stands_tables : (top : Saving SweepTask Work) (c : Checkpoint) (text : List ℕ) (r : FileNo → List ℕ)
+  pub stands_tables : {Task : Type 0} (top : Saving Task Work) (c : Checkpoint) (text : List ℕ) (r : FileNo → List ℕ)
       (told : Type 0) (p q : TopDownSweep O) (old new : World)
       → (told → (w : Work) → Remains rule begins p old w.task → top.stands c text r w (left_of q new w))
       → told → (job : TableWork) → MakesWithin rule begins p old job → StandsFor top c text r job (turns_of q new job)
@@ -141,7 +141,7 @@ module _ {O : Type 0} (rule : O → Rule) (begins : O → Tuple → Tuple) where
   }
 
   -- what a checkpoint stood for remains of a sweep that is rebuilt
-  pub rebuilt_tables : (top : Saving SweepTask Work) (c : Checkpoint) (text : List ℕ) (r : FileNo → List ℕ)
+  pub rebuilt_tables : {Task : Type 0} (top : Saving Task Work) (c : Checkpoint) (text : List ℕ) (r : FileNo → List ℕ)
       (told : Type 0) (q : TopDownSweep O) (new : World)
       → (told → (w : Work) (turns : ℕ) → top.stands c text r w turns
       → Remains rule begins q new w.task × (left_of q new w ≤ turns))
@@ -164,7 +164,7 @@ module _ {O : Type 0} (rule : O → Rule) (begins : O → Tuple → Tuple) where
         subst (λ k. turns_left q.machine new k ≤ turns) many few,
       )
 
-  pub undamaged_stands : (top : Saving SweepTask Work) (c : Checkpoint) (text : List ℕ) (r : FileNo → List ℕ)
+  pub undamaged_stands : {Task : Type 0} (top : Saving Task Work) (c : Checkpoint) (text : List ℕ) (r : FileNo → List ℕ)
       (told : Type 0) (e : SortFault)
       → (told → (w : Work) (turns : ℕ) → top.stands c text r w turns → IsNoDamage e)
       → told → (job : TableWork) (turns : ℕ) → StandsFor top c text r job turns → IsNoDamage e

@@ -19,8 +19,8 @@ pub struct TableSweep<'r, O> {
 }
 
 impl<'r, O: TableOperation> TableSweep<'r, O> {
-    ghost use Rattle.std.specs.Prelude.{◌≤◌, length};
-    ghost use Rattle.table_work.specs.Tables.{StartsTable};
+    ghost use Rattle.std.specs.Prelude.{◌≡◌, ◌≤◌, IfOk, length};
+    ghost use Rattle.table_work.specs.Tables.{StartsTable, sweep_of};
     ghost use Rattle.top_down_sweep.specs.Operations.{IsWithin};
 
     /// Begins an operation on the files of diagrams of `n` variables, which may be one file. The next two parts are its
@@ -40,6 +40,7 @@ impl<'r, O: TableOperation> TableSweep<'r, O> {
         requires within { IsWithin n (O.step operation) }
         ensures starts { StartsTable O.rule O.begins S.tells S.world S.faults (O.step operation) n operands parts
             shelf.old shelf.new result }
+        ensures operation { IfOk result (λ s. (sweep_of s).operation ≡ operation) }
     {
         operations_on_canonical_files_are_work();
         let sweep = TopDownSweep::begin(operation, n, operands, parts, room, shelf)?;
@@ -75,7 +76,7 @@ impl<'r, O: Operation> Sweep<'r> for TableSweep<'r, O> {
     ghost use Rattle.top_down_sweep.specs.Fuel.{fuel_of};
     ghost use Rattle.top_down_sweep.specs.Making.{accounts_along};
     ghost use Rattle.top_down_sweep.specs.Resumes.{top_saving};
-    ghost use Rattle.top_down_sweep.specs.Sweeps.{SweepTask, task_of, accounts};
+    ghost use Rattle.top_down_sweep.specs.Sweeps.{SweepTask, whole_task, accounts};
     ghost use Rattle.top_down_sweep.specs.Trusting.{sweep_trusted};
     ghost use Rattle.table_work.specs.Jobs.{TableWork, MakesWithin, turns_of};
     ghost use Rattle.table_work.specs.TableSaving.{table_saving};
@@ -93,9 +94,9 @@ impl<'r, O: Operation> Sweep<'r> for TableSweep<'r, O> {
 
     ghost damaged = { λ s world e. IsDamage O.rule O.begins (sweep_of s) world e };
 
-    ghost Task = { SweepTask };
+    ghost Task = { SweepTask × O };
 
-    ghost task = { λ s. task_of (sweep_of s) };
+    ghost task = { λ s. whole_task (sweep_of s) };
 
     ghost saving = { table_saving (top_saving O.Carried O.rule O.begins) };
 

@@ -242,15 +242,15 @@ operand_calls bytes = 5 + count_of bytes / 8
 abbrev pub reading_calls : SweepTask → (FileNo → List ℕ) → ℕ
 reading_calls task r = (count_of (r task.files.first) + count_of (r task.files.second) + count_of (r task.files.third)) / 8
 
--- what is seen of the checkpoints of sweeps of that operation
-abbrev pub top_saving : {O : Type 0} → Ghosts O → (O → Rule) → (O → Tuple → Tuple) → Saving SweepTask Work
+-- what is seen of the checkpoints of sweeps of that operation: which one it is they aren't asked
+abbrev pub top_saving : {O : Type 0} → Ghosts O → (O → Rule) → (O → Tuple → Tuple) → Saving (SweepTask × O) Work
 top_saving o rule begins = record {
-  operands = λ task f. IsRead task.files f;
+  operands = λ task f. IsRead task.0.files f;
   text = λ task. [];
-  names = Names o;
+  names = λ c task. Names o c task.0;
   fits = λ c text. Fits o c;
   rests = RestsOn o;
-  reading = reading_calls;
+  reading = λ task. reading_calls task.0;
   stands = λ c text r w turns. StandsFor o rule begins c r w.task (length w.tuples) turns;
 }
 

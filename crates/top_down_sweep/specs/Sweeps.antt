@@ -171,6 +171,10 @@ variables_of s = s.machine.place.variables
 abbrev pub task_of : {O : Type 0} → TopDownSweep O → SweepTask
 task_of s = task_in s.machine
 
+-- with the operation, it is what no turn changes
+abbrev pub whole_task : {O : Type 0} → TopDownSweep O → SweepTask × O
+whole_task s = (task_of s, s.operation)
+
 abbrev pub made_in : {O : Type 0} → TopDownSweep O → Option Unreduced
 made_in s = made_at s.machine.place.phase
 

@@ -40,6 +40,7 @@ impl<'r, O: Operation> TopDownSweep<'r, O> {
         ensures begun { IfOk result (Begun O.rule O.begins S.tells S.world (files_from operands parts)
             (after_two parts) shelf.old shelf.new) }
         ensures variables { IfOk result (λ s. variables_of s ≡ n) }
+        ensures operation { IfOk result (λ s. s.operation ≡ operation) }
         ensures leaves { Starts S.tells S.world S.faults n (files_from operands parts) parts
             shelf.old shelf.new result }
         ensures few_calls { IsTrue (S.tells shelf.new) →

@@ -67,6 +67,7 @@ impl<'r, O: Operation> TopDownSweep<'r, O> {
         ensures trusts { IfOk result (λ s. IsTrue (S.tells shelf.new) → IsTrusted O.rule O.begins s (S.world shelf.new)) }
         ensures files { IfOk result (λ s. files_of s ≡ files) }
         ensures variables { IfOk result (λ s. variables_of s ≡ n) }
+        ensures operation { IfOk result (λ s. s.operation ≡ operation) }
         ensures parts { IfOk result (λ s. parts_of s ≡ parts) }
         ensures made { IfOk result (λ s. made_in s ≡ None) }
 

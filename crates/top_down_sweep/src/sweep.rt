@@ -158,7 +158,7 @@ impl<'r, O: Operation> Sweep<'r> for TopDownSweep<'r, O> {
     ghost use Rattle.top_down_sweep.specs.Resumes.{top_saving};
     ghost use Rattle.top_down_sweep.specs.Meaning.{Remains};
     ghost use Rattle.top_down_sweep.specs.Turns.{Work, left_of};
-    ghost use Rattle.top_down_sweep.specs.Sweeps.{SweepTask, task_of, accounts, IsSound};
+    ghost use Rattle.top_down_sweep.specs.Sweeps.{SweepTask, whole_task, accounts, IsSound};
     ghost use Rattle.top_down_sweep.specs.Fuel.{fuel_of};
     ghost use Rattle.top_down_sweep.specs.Damage.{IsDamage};
     ghost use Rattle.top_down_sweep.specs.Calls.{IsInStep, IsTrusted};
@@ -175,9 +175,9 @@ impl<'r, O: Operation> Sweep<'r> for TopDownSweep<'r, O> {
 
     ghost damaged = { IsDamage O.rule O.begins };
 
-    ghost Task = { SweepTask };
+    ghost Task = { SweepTask × O };
 
-    ghost task = { task_of };
+    ghost task = { whole_task };
 
     ghost saving = { top_saving O.Carried O.rule O.begins };
 

@@ -29,7 +29,7 @@ returns g c =
     (fuel_of (sweep_of c.args.self.now.product))) c.requires.phase c.requires.ready.works) (record {
       ready = c.carry.ensures.ready;
       in_step = c.carry.ensures.in_step;
-      same = c.carry.ensures.same;
+      same = λ i. (c.carry.ensures.same i).0;
       fuel_is = c.carry.ensures.fuel;
       keeps = c.carry.ensures.keeps;
       left = c.carry.ensures.left;

@@ -76,7 +76,7 @@ returns-in_err-turn g c =
       damaged = c.in_err-turn.ensures.damage;
       undamaged = c.in_err-turn.ensures.undamaged;
       leaves = c.in_err-turn.ensures.leaves;
-      same = c.in_err-turn.ensures.same;
+      same = λ i. (c.in_err-turn.ensures.same i).0;
       spent = c.in_err-turn.ensures.spent;
     })))
 
@@ -103,7 +103,7 @@ returns-then-eq g c =
       damaged = c.in_ok-turn.ensures.damage;
       undamaged = c.in_ok-turn.ensures.undamaged;
       leaves = c.in_ok-turn.ensures.leaves;
-      same = c.in_ok-turn.ensures.same;
+      same = λ i. (c.in_ok-turn.ensures.same i).0;
       spent = c.in_ok-turn.ensures.spent;
     }))
     (record { value = c.meets_one-then-eq.ensures.value; none = c.meets_one-then-eq.ensures.none })))
@@ -130,6 +130,6 @@ returns-else-eq g c =
       damaged = c.in_ok-turn.ensures.damage;
       undamaged = c.in_ok-turn.ensures.undamaged;
       leaves = c.in_ok-turn.ensures.leaves;
-      same = c.in_ok-turn.ensures.same;
+      same = λ i. (c.in_ok-turn.ensures.same i).0;
       spent = c.in_ok-turn.ensures.spent;
     }))))

@@ -1,3 +1,4 @@
+use Rattle.top_down.specs.Operations.{implies}
 use Rattle.std.specs.Prelude.{IsTrue}
 use Rattle.run_tiers.proofs.FaultLaws.{on_fault}
 use Rattle.sweep_core.specs.Saving.{reads_of}
@@ -30,3 +31,10 @@ returns-in_err-product-clause-undamaged g c = on_fault c.from_residual.result c.
 pub returns-in_err-product-clause-kind : goal.returns-in_err-product-clause-kind
 returns-in_err-product-clause-kind g c = on_fault c.from_residual.result c.in_err-product.field-0.0 _
     c.from_residual.ensures.1 c.in_err-product.ensures.kind
+
+-- whatever the operator, it reads as much again
+pub returns-in_err-product-clause-calls : goal.returns-in_err-product-clause-calls
+returns-in_err-product-clause-calls g c told task names = c.rebuild.ensures.calls told (task, record { op = implies }) names
+
+pub returns-clause-calls : goal.returns-clause-calls
+returns-clause-calls g c told task names = c.rebuild.ensures.calls told (task, record { op = implies }) names

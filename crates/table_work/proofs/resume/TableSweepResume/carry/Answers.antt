@@ -11,7 +11,7 @@ use Rattle.table_work.proofs.resume.TableSweepResume.carry.Goals as goal
 -- its two files stay two
 pub returns-clause-ready : goal.returns-clause-ready
 returns-clause-ready g c = on_ok_weaker c.carry.result (ready_on (sweep_of c.args.self.now) c.carry.new.self
-    c.requires.ready c.carry.ensures.same) c.carry.ensures.ready
+    c.requires.ready (λ i. (c.carry.ensures.same i).0)) c.carry.ensures.ready
 
 -- what is kept of a task is kept of its table
 pub returns-clause-keeps : goal.returns-clause-keeps

@@ -1,3 +1,6 @@
+use Rattle.std.proofs.Common.{◌≡◌}
+use Rattle.std.specs.Prelude.{Result, Ok, Err, IfOk, IsErrAnd}
+use Rattle.shelf_model.specs.declared.sort_fault.SortFault.{SortFault}
 use Rattle.top_down_sweep.proofs.Makings.{starts_ok}
 use Rattle.top_down_sweep.specs.Beginning.{files_from}
 use Rattle.table_work.proofs.Starting.{makes_soon, no_damage, start_refused}
@@ -20,7 +23,13 @@ returns g c = record {
         (g.S.Shelf.world c.begin.new.shelf) (c.in_ok-sweep.ensures.remains told) (c.in_ok-sweep.ensures.left told);
     undamaged = tt;
   };
+  operation = c.in_ok-sweep.ensures.operation;
 }
+
+-- a fault is no sweep
+no_sweep : {T : Type 0} (P : T → Type 0) (r : Result T SortFault) (e : SortFault) → IsErrAnd r (λ x. x ≡ e) → IfOk r P
+no_sweep P (Ok x) e is = absurd is
+no_sweep P (Err x) e is = tt
 
 pub returns-in_err-sweep : goal.returns-in_err-sweep
 returns-in_err-sweep g c = record {
@@ -33,4 +42,5 @@ returns-in_err-sweep g c = record {
       (g.met.O.TableOperation.same_rule c.args.operation) (g.met.O.TableOperation.same_begins c.args.operation)
       c.requires.within c.requires.past_made (g.S.Shelf.world c.args.shelf.now) c.in_err-sweep.field-0.0
       (c.in_err-sweep.ensures.undamaged told));
+  operation = no_sweep _ c.from_residual.result _ c.from_residual.ensures.1;
 }

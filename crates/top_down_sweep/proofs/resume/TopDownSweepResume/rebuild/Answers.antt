@@ -62,7 +62,7 @@ returns-in_err-machine-clause-content g c =
 pub returns-in_err-machine-clause-calls : goal.returns-in_err-machine-clause-calls
 returns-in_err-machine-clause-calls g c told task names =
     let made = c.rebuild.ensures.calls told in
-    let few = named_calls g.O.Carried c.args.from.now c.in-Some.saved c.in-Some.operation c.in-Some.ensures.found task
+    let few = named_calls g.O.Carried c.args.from.now c.in-Some.saved c.in-Some.operation c.in-Some.ensures.found task.0
     (reads_of (g.S.Shelf.world c.args.shelf.now)) names in
     omega (arith, made, few)
 
@@ -127,7 +127,7 @@ returns-clause-content g c =
 pub returns-clause-calls : goal.returns-clause-calls
 returns-clause-calls g c told task names =
     let made = c.rebuild.ensures.calls told in
-    let few = named_calls g.O.Carried c.args.from.now c.in-Some.saved c.in-Some.operation c.in-Some.ensures.found task
+    let few = named_calls g.O.Carried c.args.from.now c.in-Some.saved c.in-Some.operation c.in-Some.ensures.found task.0
     (reads_of (g.S.Shelf.world c.args.shelf.now)) names in
     omega (arith, made, few)
 
