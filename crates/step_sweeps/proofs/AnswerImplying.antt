@@ -38,6 +38,9 @@ use Rattle.top_down_sweep.proofs.Makings.{apart_from}
 use Rattle.table_work.specs.Tables.{operand_files}
 use Rattle.product_sweep.specs.declared.leq.LeqSweep.{LeqSweep}
 use Rattle.product_sweep.specs.contracts.leq.LeqSweepSweep.TheImpl as sweeps
+use Rattle.top_down_sweep.specs.Knowing.{bytes_in}
+use Rattle.top_down_sweep.proofs.StepKnown.{product_stays}
+use Rattle.product_sweep.specs.Products.{rule_of, begins_of}
 use Rattle.product_sweep.specs.Implications.{Implication, Refutes, turns_left, accounts, task_of, product_in, IsReady, IsInStep, IsTrusted, IsDamage}
 use Rattle.product_sweep.specs.LeqSaving.{StandsFor, leq_saving, product_words}
 use Rattle.step_going.specs.Found.{IsComeTo}
@@ -48,9 +51,9 @@ use Rattle.resumable.specs.Diagrams.{arcs_of}
 use Rattle.resumable.specs.Points.{RefutesFrom}
 use Rattle.resumable.proofs.AnswerPoints.{implication_local, refutes_from}
 use Rattle.resumable.proofs.MadeFronts.{AreThere, implied_there}
-use Rattle.step_sweeps.specs.Answers.{TwoTables, IsAsked, Answers, implying, refutation_of}
+use Rattle.step_sweeps.specs.Answers.{TwoTables, IsAsked, Answers, refuting, refutation_of}
 use Rattle.step_sweeps.specs.Begun.{Begun}
-use Rattle.step_sweeps.specs.Damage.{IsImplicationFault}
+use Rattle.step_sweeps.specs.Damage.{MissesAsked, IsImplicationFault}
 use Rattle.step_sweeps.specs.Going.{MayGoOn, next_of, rest_calls}
 use Rattle.step_sweeps.specs.Points.{IsOfImplication}
 use Rattle.step_sweeps.proofs.AnswerFronts.{cut_behind_points}
@@ -121,7 +124,7 @@ pub record Starts {S : Type 0} (tells : S → Bool) (world : S → World) (count
   pub ready : IfOk result IsReady
   pub in_step : IfOk result (λ s. IsTrue (tells after) → IsInStep s (world after))
   pub trusts : IfOk result (λ s. IsTrue (tells after) → IsTrusted s (world after))
-  pub begun : IfOk result (λ s. top.Begun tells world (files_from (operand_files left right right) (no_parts number))
+  pub begun : IfOk result (λ s. top.Begun rule_of begins_of tells world (files_from (operand_files left right right) (no_parts number))
       (after_two (no_parts number)) before after (product_in s))
   pub variables : IfOk result (λ s. variables_of (product_in s) ≡ n)
   pub leaves : top.Starts tells world counts n (files_from (operand_files left right right) (no_parts number))
@@ -170,16 +173,16 @@ module _ {S : Type 0} (tells : S → Bool) (world : S → World) (counts : S →
   local g = implication_local n left right going.step g.left g.right
 
   abbrev Begins : LeqSweep → Type 0
-  Begins = Begun tells world counts sweeps.ghosts (implying n left right) (refutation_of n)
+  Begins = Begun tells world counts sweeps.ghosts (refuting n left right) (refutation_of n)
       (arcs_of n (two_files left right) going.step) going before after
 
   abbrev IsRefused : SortFault → Type 0
-  IsRefused e = Answers tells world counts (implying n left right) going before after (Err e)
+  IsRefused e = Answers tells world counts (refuting n left right) going before after (Err e)
 
   -- the operands are sure, and stay so
   operands_firm : (s : LeqSweep) → task_of s ≡ arcs_of n (two_files left right) going.step
       → Ran (OnlyChanged (IsBehindPoints going.step) (now (world before))) (world before) (world after)
-      → (g : TwoTables) → IsAsked (implying n left right) going (world before) g → (f : FileNo)
+      → (g : TwoTables) → IsAsked (refuting n left right) going (world before) g → (f : FileNo)
       → IsRead (task_of s).files f → IsFirm (file (world after) f)
   operands_firm s task_is ran g asked f read =
       let same = file_stays (IsBehindPoints going.step) (world before) (world after) f
@@ -208,7 +211,7 @@ module _ {S : Type 0} (tells : S → Bool) (world : S → World) (counts : S →
     nothing_rests : RestsApart implication_rests (IsBehindPoints going.step) going.step going.last
     nothing_rests = subst (RestsApart implication_rests (IsBehindPoints going.step) going.step) (sym none) tt
 
-    start_images : IsTrue (tells after) → (g : TwoTables) → IsAsked (implying n left right) going (world before) g
+    start_images : IsTrue (tells after) → (g : TwoTables) → IsAsked (refuting n left right) going (world before) g
         → Throughout (world before) (world after) (λ (m : Moment). AreSafe (Goes g) going.step m.folder)
     start_images told_new g asked = safe_along (Goes g) implication_rests going.step (local g)
         (IsBehindPoints going.step) (next_of going.last) going.last gate_outside nothing_rests tells world before after
@@ -287,14 +290,14 @@ module _ {S : Type 0} (tells : S → Bool) (world : S → World) (counts : S →
       → Starts tells world counts n left right going.step before after result → IfErr result IsRefused
   start_refused (Ok s) none starts = tt
   start_refused (Err e) none starts =
-      refuses tells world counts (implying n left right) going local before after (Err e) (record {
+      refuses tells world counts (refuting n left right) going local before after (Err e) (record {
         undamaged = λ told_new g asked. starts.undamaged told_new g.left g.right asked.given.left_is.canonical
             asked.given.right_is.canonical (not_of_step going.step 3 left earlier.0)
             (not_of_step going.step 3 right earlier.1);
         kind = λ told_new same. let many : 2 ^ 32 ≤ 4 = starts.leaves.spent.0 (ap Err same) in
             absurd (omega (arith, many));
-        damaged = λ told_new none gate. implication_fault n left right (world before) e
-            (start_fault n (operand_files left right right) (files_from (operand_files left right right)
+        damaged = λ told_new none gate. implication_fault (MissesAsked Unit) n left right (world before) e
+            (start_fault (MissesAsked Unit) n (operand_files left right right) (files_from (operand_files left right right)
             (no_parts going.step)) (world before) e refl refl refl
             (λ other. starts.leaves.damage other told_new));
         images = start_images none (Err e) starts;
@@ -313,20 +316,20 @@ module _ {S : Type 0} (tells : S → Bool) (world : S → World) (counts : S →
     not_none none = absurd (cc)
 
     -- one with which the step stands is of this implication
-    stands_at : (g : TwoTables) → IsAsked (implying n left right) going (world before) g
+    stands_at : (g : TwoTables) → IsAsked (refuting n left right) going (world before) g
         → StandsIn (Goes g) implication_rests going.step c.next_part (now (world before)).folder c
     stands_at g asked =
         subst (λ l. IsStanding (Goes g) implication_rests going.step (next_of l) (now (world before)).folder l)
         last asked.standing
 
-    from_point : (g : TwoTables) → IsAsked (implying n left right) going (world before) g
+    from_point : (g : TwoTables) → IsAsked (refuting n left right) going (world before) g
         → RefutesFrom n left right going.step g.left g.right (reads_of (world before)) c
     from_point g asked =
         let stands = stands_at g asked in
         refutes_from n left right going.step g.left g.right (reads_of (world before)) c stands.last
         stands.goes_on
 
-    is_ours : (g : TwoTables) → IsAsked (implying n left right) going (world before) g
+    is_ours : (g : TwoTables) → IsAsked (refuting n left right) going (world before) g
         → IsOfImplication c n left right
     is_ours g asked =
         let from = (from_point g asked).goes in
@@ -342,7 +345,7 @@ module _ {S : Type 0} (tells : S → Bool) (world : S → World) (counts : S →
         → (IsTrue (tells after) → (world after).clock ≤ (world before).clock + 1)
         → OnlySortShelf {T = Unit} (counts before) (counts after) (Err e) → IsRefused e
     foreign_refused e foreign kind content calls faults =
-        refuses_foreign tells world counts (implying n left right) going local before after c last (omega arith, omega arith) e
+        refuses_foreign tells world counts (refuting n left right) going local before after c last (omega arith, omega arith) e
         (λ g asked. foreign (is_ours g asked)) kind content calls faults
 
     -- and then it is rebuilt
@@ -378,7 +381,7 @@ module _ {S : Type 0} (tells : S → Bool) (world : S → World) (counts : S →
           + count_of (reads_of (world before) right)))) (sym last) (omega (arith, few))
 
       module _ (told_new : IsTrue (tells after)) (g : TwoTables)
-          (asked : IsAsked (implying n left right) going (world before) g) where
+          (asked : IsAsked (refuting n left right) going (world before) g) where
         all_there : AreThere (implication_rests c) (reads_of (world before))
         all_there = implied_there n left right going.step g.left g.right (reads_of (world before)) c
             (stands_at g asked).goes_on (stands_at g asked).last
@@ -495,7 +498,7 @@ module _ {S : Type 0} (tells : S → Bool) (world : S → World) (counts : S →
         → Rebuilds tells world counts c before after result → IfErr result IsRefused
     rebuild_refused files (Ok s) ours rebuilds = tt
     rebuild_refused files (Err e) ours rebuilds =
-        refuses tells world counts (implying n left right) going local before after (Err e) (record {
+        refuses tells world counts (refuting n left right) going local before after (Err e) (record {
           undamaged = λ told_new g asked.
               let from = (from_point g asked).goes in
               rebuilds.undamaged told_new (refutation_of n g) from.left from.stands;
@@ -510,7 +513,7 @@ module _ {S : Type 0} (tells : S → Bool) (world : S → World) (counts : S →
         })
 
 -- the sweeps of the kind answer the question
-pub implied_by : (n : ℕ) (left right : FileNo) (number : ℕ) → IsAnsweredBy sweeps.ghosts (implying n left right)
+pub implied_by : (n : ℕ) (left right : FileNo) (number : ℕ) → IsAnsweredBy sweeps.ghosts (refuting n left right)
     (refutation_of n) (arcs_of n (two_files left right) number) number
 implied_by n left right number = record {
   local = λ g. implication_local n left right number g.left g.right;
@@ -524,13 +527,14 @@ implied_by n left right number = record {
 pub implied_fault : (n : ℕ) (left right : FileNo) (number : ℕ) (t : LeqSweep) (new old : World) (e : SortFault)
     → (left.step < number) × (right.step < number) → task_of t ≡ arcs_of n (two_files left right) number
     → accounts.step t ≡ number → file new left ≡ file old left → file new right ≡ file old right
-    → IsDamage t new e ⊎ IsNoDamage e → IsImplicationFault n left right old e
+    → IsDamage t new e ⊎ IsNoDamage e → IsImplicationFault (MissesAsked Unit) n left right old e
 implied_fault n left right number t new old e earlier task_is step_is here there (inl damage) =
     let files = ap (λ (x : SweepTask). x.files) task_is in
     let left_apart = not_of_step number 3 left earlier.0 in
     let right_apart = not_of_step number 3 right earlier.1 in
     turn_fault_at t.phase n left right t old new e
-    (turn_fault n (operand_files left right right) (product_in t).machine old new e
+    (turn_fault Unit n (operand_files left right right) (rule_of (product_in t).operation)
+    (begins_of (product_in t).operation) (product_in t).machine old new e
     (ap (λ (x : SweepTask). x.variables) task_is) (record {
       first = ap (λ (x : Files). x.first) files;
       second = ap (λ (x : Files). x.second) files;
@@ -540,7 +544,8 @@ implied_fault n left right number t new old e earlier task_is step_is here there
       third_kept = there;
     })
     (subst (λ v. v) (λ i. AreApart (sym files i) (sym step_is i))
-    (apart_from (operand_files left right right) (no_parts number) (omega arith) left_apart right_apart right_apart)))
+    (apart_from (operand_files left right right) (no_parts number) (omega arith) left_apart right_apart right_apart))
+    (λ own. product_stays (product_in t).operation.op (bytes_in (product_in t).machine new)))
     damage
 implied_fault n left right number t new old Shelf earlier task_is step_is here there (inr none) = tt
 implied_fault n left right number t new old (Damaged f at) earlier task_is step_is here there (inr none) = absurd none

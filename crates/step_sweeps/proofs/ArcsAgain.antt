@@ -41,7 +41,7 @@ use Rattle.step_sweeps.specs.Kinds.{arcs_kind}
 use Rattle.step_sweeps.specs.Made.{OnlyStep}
 use Rattle.step_sweeps.specs.Makes.{IsGivenFor, goes_on_by, operand_nodes}
 use Rattle.step_sweeps.specs.Started.{IsUnderWay, Starts}
-use Rattle.step_sweeps.specs.Sweeping.{MaySweep, MakesArcs, arcs_most}
+use Rattle.step_sweeps.specs.Sweeping.{MaySweep, SweepsArcs, arcs_most}
 use Rattle.step_sweeps.proofs.ArcsPoints.{front_there}
 use Rattle.step_sweeps.proofs.ArcsStart.{read_firm}
 use Rattle.step_sweeps.proofs.Rebuilt.{made_sure, sure_still}
@@ -160,9 +160,9 @@ module _ {S : Type 0} (tells : S → Bool) (world : S → World) (counts : S →
       pub in_step : IsTrue (tells mid) → arcs_kind.in_step s (world mid)
       pub step_is : arcs_kind.accounts.step s ≡ c.step
       pub next_is : arcs_kind.accounts.next s ≡ c.next_part
-      pub files : IsOfStep (arcs_kind.accounts.makes s) (arcs_saving.operands (arcs_kind.task s))
+      pub files : IsOfStep (arcs_kind.accounts.makes s) (arcs_kind.saving.operands (arcs_kind.task s))
           (arcs_kind.accounts.step s) (arcs_kind.accounts.next s)
-      pub names_it : Names step_words c (arcs_kind.task s)
+      pub names_it : Names step_words c (task_of (sweep_of s))
       pub remains : IsTrue (tells mid) → (job : TableWork) (turns : ℕ)
           → arcs_saving.stands c [] (reads_of (world before)) job turns
           → arcs_kind.remains s (world mid) job × (arcs_kind.left s (world mid) job ≤ turns)
@@ -235,7 +235,7 @@ module _ {S : Type 0} (tells : S → Bool) (world : S → World) (counts : S →
         → (IsTrue (tells mid) → (world mid).clock ≤ (world before).clock
         + (2 ^ 20 + operand_nodes making (reads_of (world before)) / 8))
         → OnlySortShelf {T = MadeArcs} (counts before) (counts mid) (Err e)
-        → MakesArcs tells world counts making again again before mid (Err e)
+        → SweepsArcs tells world counts making again again before mid (Err e)
     again_refused e not_spent undamaged calls faults = record {
       going = record { step_is = refl; sweep_is = refl; budget_is = refl };
       files = tt;
@@ -279,7 +279,7 @@ module _ {S : Type 0} (tells : S → Bool) (world : S → World) (counts : S →
       → Names step_words c (arcs_of making.n making.operands making.number) → ⊥) → (e : SortFault) → e ≢ RunsSpent
       → Told tells before mid (Ran (Stays (now (world before))) (world before) (world mid))
       → OnlySortShelf {T = MadeArcs} (counts before) (counts mid) (Err e)
-      → MakesArcs tells world counts making again again before mid (Err e)
+      → SweepsArcs tells world counts making again again before mid (Err e)
   foreign_refused may never e not_spent content faults = record {
     going = record { step_is = refl; sweep_is = refl; budget_is = refl };
     files = tt;

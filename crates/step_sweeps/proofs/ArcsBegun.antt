@@ -29,7 +29,7 @@ use Rattle.step_sweeps.specs.Given.{AreEarlier}
 use Rattle.step_sweeps.specs.Kinds.{arcs_kind}
 use Rattle.step_sweeps.specs.Parts.{parts_of}
 use Rattle.step_sweeps.specs.Started.{Starts}
-use Rattle.step_sweeps.specs.Sweeping.{MaySweep, IsEarly, MakesArcs, arcs_most}
+use Rattle.step_sweeps.specs.Sweeping.{MaySweep, IsEarly, SweepsArcs, arcs_most}
 use Rattle.step_sweeps.proofs.ArcsStart.{starts_arcs, start_refused}
 use Rattle.step_sweeps.proofs.ArcsAgain.{Rebuilds, again_task, restarts_arcs, again_refused, foreign_refused}
 use Rattle.step_sweeps.proofs.Faults.{never_blamed}
@@ -41,7 +41,7 @@ module _ {S : Type 0} (tells : S → Bool) (world : S → World) (counts : S →
     abbrev pub IsBegunBy : Going → Type 0
     IsBegunBy going = IfOk result (Starts tells world counts arcs_kind
         (λ g job s. job ≡ work_of making.operation making.n g) (arcs_most making going) 8 making going before mid)
-        × IfErr result (λ e. MakesArcs tells world counts making going going before mid (Err e))
+        × IfErr result (λ e. SweepsArcs tells world counts making going going before mid (Err e))
 
     -- from its beginning on
     pub begun_anew : (going : Going) → going.last ≡ None → MaySweep making.number going
@@ -59,7 +59,7 @@ module _ {S : Type 0} (tells : S → Bool) (world : S → World) (counts : S →
             (parts_of making.number) before mid r
             → IfOk r (Starts tells world counts arcs_kind (λ g job s. job ≡ work_of making.operation making.n g)
             (arcs_most making (record going { last = None })) 8 making (record going { last = None }) before mid)
-            × IfErr r (λ e. MakesArcs tells world counts making (record going { last = None })
+            × IfErr r (λ e. SweepsArcs tells world counts making (record going { last = None })
             (record going { last = None }) before mid (Err e))
         by (Ok s) may early started = (starts_arcs tells world counts making going before mid may earlier early s started, tt)
         by (Err e) may early started = (tt, start_refused tells world counts making going before mid earlier e started)
@@ -73,9 +73,9 @@ module _ {S : Type 0} (tells : S → Bool) (world : S → World) (counts : S →
     pub ready : IfOk result arcs_kind.ready
     pub in_step : IfOk result (λ s. IsTrue (tells mid) → arcs_kind.in_step s (world mid))
     pub parts : IfOk result (λ s. (arcs_kind.accounts.step s ≡ c.step) × (arcs_kind.accounts.next s ≡ c.next_part))
-    pub files : IfOk result (λ s. IsOfStep (arcs_kind.accounts.makes s) (arcs_saving.operands (arcs_kind.task s))
+    pub files : IfOk result (λ s. IsOfStep (arcs_kind.accounts.makes s) (arcs_kind.saving.operands (arcs_kind.task s))
         (arcs_kind.accounts.step s) (arcs_kind.accounts.next s))
-    pub names_it : IfOk result (λ s. Names step_words c (arcs_kind.task s))
+    pub names_it : IfOk result (λ s. Names step_words c (task_of (sweep_of s)))
     pub remains : IfOk result (λ s. IsTrue (tells mid) → (job : TableWork) (turns : ℕ)
         → arcs_saving.stands c [] (reads_of (world before)) job turns
         → arcs_kind.remains s (world mid) job × (arcs_kind.left s (world mid) job ≤ turns))
@@ -95,7 +95,7 @@ module _ {S : Type 0} (tells : S → Bool) (world : S → World) (counts : S →
   IsTakenUp going result = IfOk result (Starts tells world counts arcs_kind
       (λ g job s. job ≡ work_of making.operation making.n g) (arcs_most making going) 8 making going before mid)
       × IfOk result (λ s. task_of (sweep_of s) ≡ arcs_of making.n making.operands making.number)
-      × IfErr result (λ e. MakesArcs tells world counts making going going before mid (Err e))
+      × IfErr result (λ e. SweepsArcs tells world counts making going going before mid (Err e))
 
   pub begun_again : (going : Going) → going.last ≡ Some c → MaySweep making.number going
       → (result : Result (TableSweep StepOperation) SortFault) → Rebuilt result → IsTakenUp going result
@@ -141,9 +141,9 @@ module _ {S : Type 0} (tells : S → Bool) (world : S → World) (counts : S →
       → Names step_words c (arcs_of making.n making.operands making.number) → ⊥) → (e : SortFault) → e ≢ RunsSpent
       → Told tells before mid (Ran (Stays (now (world before))) (world before) (world mid))
       → OnlySortShelf {T = Unit} (counts before) (counts mid) (Err e)
-      → MakesArcs tells world counts making going going before mid (Err e)
+      → SweepsArcs tells world counts making going going before mid (Err e)
   begun_foreign going last may never e not_spent content faults =
       subst (λ o. MaySweep making.number (record going { last = o })
-      → MakesArcs tells world counts making (record going { last = o }) (record going { last = o }) before mid (Err e))
+      → SweepsArcs tells world counts making (record going { last = o }) (record going { last = o }) before mid (Err e))
       (sym last) (λ may. foreign_refused tells world counts making going c before mid may never e not_spent content
       (sort_shelf_on (counts before) (counts mid) e (Err e) refl faults)) may

@@ -22,14 +22,19 @@ use Rattle.sweep_core.specs.Carries.{OnlySaved}
 use Rattle.sweep_core.specs.Saving.{reads_of}
 use Rattle.sweep_core.specs.Sweeps.{IsNoDamage}
 use Rattle.arc_file.specs.declared.unreduced.Unreduced.{Unreduced}
+use Rattle.top_down_sweep.specs.declared.beginning.OperandFiles.{OperandFiles}
+use Rattle.top_down_sweep.specs.declared.start.Files.{Files}
 use Rattle.top_down_sweep.specs.declared.steps.StepOperation.{StepOperation}
+use Rattle.top_down_sweep.specs.declared.steps.StepOperation.TheVariants.{Operator, Choice, Quantifier, Restriction}
 use Rattle.top_down_sweep.specs.Calls.{IsTrusted}
+use Rattle.top_down_sweep.specs.Knowing.{FileBytes, bytes_in}
 use Rattle.top_down_sweep.specs.Operations.{rule_of, begins_of}
 use Rattle.top_down_sweep.specs.Sweeps.{SweepTask, HasMade, files_of, parts_of, task_of}
 use Rattle.top_down_sweep.specs.Tasks.{AreArcFiles}
 use Rattle.top_down_sweep.specs.Waiting.{AreApart}
 use Rattle.top_down_sweep.proofs.Makings.{apart_from}
 use Rattle.top_down_sweep.proofs.Orders.{ended_in_order}
+use Rattle.top_down_sweep.proofs.StepKnown.{AreTwins, step_stays}
 use Rattle.table_work.specs.declared.sweep.TableSweep.{TableSweep}
 use Rattle.table_work.specs.Jobs.{TableWork, GivesWithin, HasFewSources, table_job}
 use Rattle.table_work.specs.Tables.{sweep_of, work_of}
@@ -39,7 +44,7 @@ use Rattle.resumable.proofs.Resting.{arcs_spare_nodes}
 use Rattle.resumable.proofs.Rests.{arcs_rests}
 use Rattle.step_sweeps.specs.declared.arcs.MadeArcs.{MadeArcs}
 use Rattle.step_sweeps.specs.declared.task.Making.{Making}
-use Rattle.step_sweeps.specs.Damage.{IsArcsFault}
+use Rattle.step_sweeps.specs.Damage.{MissesAsked, AsksOwn, IsFoundFault}
 use Rattle.step_sweeps.specs.Given.{Tables, AreEarlier, tuples_by}
 use Rattle.step_sweeps.specs.Kinds.{arcs_kind}
 use Rattle.step_sweeps.specs.Made.{node_file, OnlyStep, HasArcFiles}
@@ -47,7 +52,7 @@ use Rattle.step_sweeps.specs.Makes.{IsGivenFor, HasNoGate, goes_on_by, table_by}
 use Rattle.step_sweeps.specs.Parts as step_parts
 use Rattle.step_sweeps.specs.Started.{Starts, IsUnderWay}
 use Rattle.step_sweeps.specs.Stops.{IsSaidOf}
-use Rattle.step_sweeps.specs.Sweeping.{MaySweep, IsEarly, MakesArcs, AreArcsOf, IsCovered, arcs_most, owed_parts}
+use Rattle.step_sweeps.specs.Sweeping.{MaySweep, IsEarly, SweepsArcs, AreArcsOf, IsCovered, arcs_most, owed_parts}
 use Rattle.step_sweeps.proofs.ArcsRun.{HasRun, most_fits, run_content, run_safe, run_few, run_spent, run_stops, way, few, by}
 use Rattle.step_sweeps.proofs.Costs.{few_saves}
 use Rattle.step_sweeps.proofs.Faults.{turn_fault, no_damage}
@@ -129,7 +134,7 @@ module _ {S : Type 0} (tells : S → Bool) (world : S → World) (counts : S →
     (ended : HasEnded tells world going later s t mid after (Ok tt)) where
   -- it took more parts than a step has
   pub ran_out : 2 ^ 32 ≤ arcs_kind.accounts.next t
-      → MakesArcs tells world counts making going later before after (Err RunsSpent)
+      → SweepsArcs tells world counts making going later before after (Err RunsSpent)
   ran_out spent = record {
     going = run.going_is;
     files = tt;
@@ -284,8 +289,8 @@ module _ {S : Type 0} (tells : S → Bool) (world : S → World) (counts : S →
           }
 
     pub ran_made : (IsTrue (tells mid) → going.last ≡ None → HasNoGate making.number (world before)
-        → IsTrusted (sweep_of s) (world mid) × IsCovered making.number (world mid))
-        → MakesArcs tells world counts making going later before after (Ok m)
+        → IsTrusted rule_of begins_of (sweep_of s) (world mid) × IsCovered making.number (world mid))
+        → SweepsArcs tells world counts making going later before after (Ok m)
     ran_made begun = record {
       going = run.going_is;
       files = arc_files;
@@ -301,7 +306,7 @@ module _ {S : Type 0} (tells : S → Bool) (world : S → World) (counts : S →
       damaged = tt;
       ordered = λ told none gate.
           let first = begun (run.changes.before told) none gate in (
-            ended_in_order (sweep_of t) (world after) m.arcs (ended.trusts told first.0)
+            ended_in_order rule_of begins_of (sweep_of t) (world after) m.arcs (ended.trusts told first.0)
                 (sym gave.gives.gives.made_is ∙ gave.is),
             subst (λ k. IsCovered k (world after)) may.step_is (ended.covers told
                 (subst (λ k. IsCovered k (world mid)) (sym may.step_is) first.1)),
@@ -387,19 +392,33 @@ module _ {S : Type 0} (tells : S → Bool) (world : S → World) (counts : S →
             let stock = started.stock in
             (omega (arith, owed, first), omega (arith, stock, parts))
 
+-- a quantifier that is given one file twice reads the same bytes twice
+twins : (operation : StepOperation) (operands : OperandFiles) (b : FileBytes)
+    → (operands.second ≡ operands.first → b.second ≡ b.first) → AsksOwn operation operands → AreTwins operation b
+twins (Operator op) operands b same own = tt
+twins Choice operands b same own = tt
+twins (Quantifier kind level) operands b same own = same own
+twins (Restriction level value) operands b same own = tt
+
 -- damage that a turn finds is that of an operand as it was
 pub arcs_fault : (making : Making) (t : TableSweep StepOperation) (old new : World) (e : SortFault)
     → AreEarlier making.number making.operands
     → task_of (sweep_of t) ≡ arcs_of making.n making.operands making.number
+    → (sweep_of t).operation ≡ making.operation
     → arcs_kind.accounts.step t ≡ making.number → Ran (OnlyStep making.number (now old)) old new
-    → arcs_kind.damaged t new e ⊎ IsNoDamage e → IsArcsFault making.n making.operands old e
-arcs_fault making t old new e earlier task step ran (inr none) = no_damage making.n making.operands old e none
-arcs_fault making t old new e earlier task step ran (inl damage) =
-    turn_fault making.n making.operands (sweep_of t).machine old new e (ap (λ (x : SweepTask). x.variables) task)
+    → arcs_kind.damaged t new e ⊎ IsNoDamage e → IsFoundFault making.operation making.n making.operands old e
+arcs_fault making t old new e earlier task operation step ran (inr none) =
+    no_damage (MissesAsked (AsksOwn making.operation making.operands)) making.n making.operands old e none
+arcs_fault making t old new e earlier task operation step ran (inl damage) =
+    let files = ap (λ (x : SweepTask). x.files) task in
+    let its = (sweep_of t).operation in
+    let bytes = bytes_in (sweep_of t).machine new in
+    turn_fault (AsksOwn making.operation making.operands) making.n making.operands (rule_of its) (begins_of its)
+    (sweep_of t).machine old new e (ap (λ (x : SweepTask). x.variables) task)
     (record {
-      first = ap (λ (x : SweepTask). x.files.first) task;
-      second = ap (λ (x : SweepTask). x.files.second) task;
-      third = ap (λ (x : SweepTask). x.files.third) task;
+      first = ap (λ (x : Files). x.first) files;
+      second = ap (λ (x : Files). x.second) files;
+      third = ap (λ (x : Files). x.third) files;
       first_kept = earlier_stays making.number old new ran making.operands.first earlier.first;
       second_kept = earlier_stays making.number old new ran making.operands.second earlier.second;
       third_kept = earlier_stays making.number old new ran making.operands.third earlier.third;
@@ -408,13 +427,16 @@ arcs_fault making t old new e earlier task step ran (inl damage) =
     (apart_from making.operands (step_parts.parts_of making.number) (omega arith)
     (not_of_step making.number 3 making.operands.first earlier.first)
     (not_of_step making.number 3 making.operands.second earlier.second)
-    (not_of_step making.number 3 making.operands.third earlier.third))) damage
+    (not_of_step making.number 3 making.operands.third earlier.third)))
+    (λ own. step_stays its bytes (subst (λ o. AreTwins o bytes) (sym operation)
+    (twins making.operation making.operands bytes (λ same. ap (λ f. (file new f).bytes)
+    (ap (λ (x : Files). x.second) files ∙ same ∙ sym (ap (λ (x : Files). x.first) files))) own))) damage
 
 -- a fault that is handed on
 pub handed_arcs : {S : Type 0} (tells : S → Bool) (world : S → World) (counts : S → Faults) (making : Making)
     (going later : Going) (old new : S) (e : SortFault) (r : Result MadeArcs SortFault) → IsErrAnd r (λ x. x ≡ e)
-    → MakesArcs tells world counts making going later old new (Err e)
-    → MakesArcs tells world counts making going later old new r
+    → SweepsArcs tells world counts making going later old new (Err e)
+    → SweepsArcs tells world counts making going later old new r
 handed_arcs tells world counts making going later old new e (Ok x) is makes = absurd is
 handed_arcs tells world counts making going later old new e (Err x) is makes =
-    subst (λ (y : SortFault). MakesArcs tells world counts making going later old new (Err y)) (sym is) makes
+    subst (λ (y : SortFault). SweepsArcs tells world counts making going later old new (Err y)) (sym is) makes

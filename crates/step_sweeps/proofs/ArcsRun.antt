@@ -1,6 +1,7 @@
 -- The sweep that makes a step's arcs, which was begun, and then run and saved.
-use Rattle.std.proofs.Common.{◌≡◌, ◌⊎◌, ◌∙◌, ℕ, ◌+◌, ◌-◌, ◌*◌, ◌^◌, ◌<◌, ◌≤◌, max, Bool, refl, sym, subst, inl, inr, arith}
+use Rattle.std.proofs.Common.{◌≡◌, ◌⊎◌, ◌∙◌, ℕ, ◌+◌, ◌-◌, ◌*◌, ◌^◌, ◌<◌, ◌≤◌, max, Bool, List, refl, sym, subst, inl, inr, arith}
 use Rattle.std.specs.Prelude.{IsTrue, Option, Some, None, Result, Ok, Err, OnOk, IfErr, IsErrOf}
+use Rattle.shelf_model.specs.declared.file_no.FileNo.{FileNo}
 use Rattle.shelf_model.specs.declared.sort_fault.SortFault.{SortFault}
 use Rattle.shelf_model.specs.declared.sort_fault.SortFault.TheVariants.{RunsSpent}
 use Rattle.shelf_model.specs.Calls.{Told}
@@ -20,24 +21,25 @@ use Rattle.sweep_checkpoint.specs.Stops.{StopsCost}
 use Rattle.sweep_core.specs.declared.checkpoint.Checkpoint.{Checkpoint}
 use Rattle.sweep_core.specs.Saving.{reads_of}
 use Rattle.sweep_core.specs.Sweeps.{IsNoDamage}
+use Rattle.top_down_sweep.specs.declared.beginning.OperandFiles.{OperandFiles}
 use Rattle.top_down_sweep.specs.declared.steps.StepOperation.{StepOperation}
 use Rattle.top_down_sweep.specs.ResumeLaws as laws
 use Rattle.top_down_sweep.specs.Sweeps.{task_of}
 use Rattle.table_work.specs.declared.sweep.TableSweep.{TableSweep}
 use Rattle.table_work.specs.Jobs.{TableWork}
 use Rattle.table_work.specs.Tables.{sweep_of, work_of}
-use Rattle.resumable.specs.Diagrams.{arcs_of, step_words, diagram_rests}
+use Rattle.resumable.specs.Diagrams.{arcs_of, arcs_saving, step_words, diagram_rests}
 use Rattle.resumable.proofs.Makings.{arcs_go}
 use Rattle.resumable.proofs.Resting.{arcs_see}
 use Rattle.step_sweeps.specs.declared.task.Making.{Making}
-use Rattle.step_sweeps.specs.Damage.{IsArcsFault}
+use Rattle.step_sweeps.specs.Damage.{IsFoundFault}
 use Rattle.step_sweeps.specs.Given.{Tables, tuples_by}
 use Rattle.step_sweeps.specs.Going.{rest_calls}
 use Rattle.step_sweeps.specs.Kinds.{arcs_kind}
 use Rattle.step_sweeps.specs.Makes.{IsGivenFor, HasNoGate, goes_on_by, operand_nodes, nodes_for, work_for}
 use Rattle.step_sweeps.specs.Started.{Starts, IsUnderWay}
 use Rattle.step_sweeps.specs.Stops.{shown_by, arcs_stop}
-use Rattle.step_sweeps.specs.Sweeping.{MaySweep, IsEarly, MakesArcs, TakesFew, arcs_most, most_turns, owed_parts, IsCovered, calls_of}
+use Rattle.step_sweeps.specs.Sweeping.{MaySweep, IsEarly, SweepsArcs, TakesFew, arcs_most, most_turns, owed_parts, IsCovered, calls_of}
 use Rattle.step_sweeps.proofs.Costs.{few_saves, spent_turns}
 use Rattle.step_sweeps.proofs.Running.{the_fault}
 use Rattle.step_sweeps.proofs.Stops.{RunStops, come_shown, started_stops}
@@ -81,6 +83,24 @@ pub most_fits : (last : Option Checkpoint) (making : Making) (going : Going) (g 
 most_fits None making going g early = let few = early refl in (omega (arith, few), omega arith)
 most_fits (Some c) making going g early = (omega arith, omega arith)
 
+-- a checkpoint of such arcs is one of them, whatever the operation
+abbrev of_files : (number n : ℕ) (operands : OperandFiles) (operation : StepOperation) (work : TableWork) (turns : ℕ)
+    (r : FileNo → List ℕ) → GoesOn arcs_kind.saving number 0 (arcs_of n operands number, operation) work turns r
+    → GoesOn arcs_saving number 0 (arcs_of n operands number) work turns r
+of_files number n operands operation work turns r goes = record {
+  point = goes.point;
+  last = goes.last;
+  rules = goes.rules;
+  paid = goes.paid;
+  sweep_is = goes.sweep_is;
+  words = goes.words;
+  names = goes.names;
+  fits = goes.fits;
+  left = goes.left;
+  stands = goes.stands;
+  few = goes.few;
+}
+
 module _ {S : Type 0} (tells : S → Bool) (world : S → World) (counts : S → Faults) (making : Making) (going : Going)
     (may : MaySweep making.number going) (before mid after : S) (early : IsEarly tells world making going before) (s t : TableSweep StepOperation)
     (started : Starts tells world counts arcs_kind (λ g job s. job ≡ work_of making.operation making.n g)
@@ -116,11 +136,12 @@ module _ {S : Type 0} (tells : S → Bool) (world : S → World) (counts : S →
     by = subst (λ k. GoesOnBy arcs_kind.saving (λ r. goes_on_by making g r) diagram_rests making.number
         k (arcs_kind.task s) (work_of making.operation making.n g) turns) (sym may.sweep_is)
         (subst (λ u. GoesOnBy arcs_kind.saving (λ r. goes_on_by making g r) diagram_rests making.number
-        0 u (work_of making.operation making.n g) turns) (sym task) (record {
-          goes_on = λ r goes. arcs_go making.operation making.n making.operands making.number g turns r goes
-              within;
+        0 (u, (sweep_of s).operation) (work_of making.operation making.n g) turns) (sym task) (record {
+          goes_on = λ r goes. arcs_go making.operation making.n making.operands making.number g turns r
+              (of_files making.number making.n making.operands (sweep_of s).operation (work_of making.operation making.n g) turns r goes) within;
           rests_within = λ r goes f n. arcs_see making.number turns r
-              (arcs_of making.n making.operands making.number) (work_of making.operation making.n g) goes f n;
+              (arcs_of making.n making.operands making.number) (work_of making.operation making.n g)
+              (of_files making.number making.n making.operands (sweep_of s).operation (work_of making.operation making.n g) turns r goes) f n;
           apart = laws.apart step_words;
         }))
       where
@@ -222,8 +243,8 @@ module _ {S : Type 0} (tells : S → Bool) (world : S → World) (counts : S →
     (files_at : IsTrue (tells mid) → AreFiles (now (world mid)).folder) (later : Going) where
   pub run_refused : (e : SortFault) → HasRun tells world counts going later s t mid after (Err e)
       → (IsTrue (tells after) → going.last ≡ None → HasNoGate making.number (world before)
-      → IsArcsFault making.n making.operands (world before) e)
-      → MakesArcs tells world counts making going later before after (Err e)
+      → IsFoundFault making.operation making.n making.operands (world before) e)
+      → SweepsArcs tells world counts making going later before after (Err e)
   run_refused e run damaged = record {
     going = run.going_is;
     files = tt;

@@ -31,13 +31,14 @@ use Rattle.table_work.specs.Tables.{sweep_of, work_of, StartsTable, AreGivenTo}
 use Rattle.resumable.specs.Diagrams.{arcs_of, diagram_rests}
 use Rattle.resumable.proofs.DiagramPoints.{diagram_local}
 use Rattle.step_sweeps.specs.declared.task.Making.{Making}
+use Rattle.step_sweeps.specs.Damage.{MissesAsked, AsksOwn}
 use Rattle.step_sweeps.specs.Given.{Tables, AreEarlier, tuples_by, nodes_by}
 use Rattle.step_sweeps.specs.Kinds.{arcs_kind}
 use Rattle.step_sweeps.specs.Made.{OnlyStep}
 use Rattle.step_sweeps.specs.Makes.{IsGivenFor, AreFirm, HasNoGate, goes_on_by}
 use Rattle.step_sweeps.specs.Parts.{parts_of}
 use Rattle.step_sweeps.specs.Started.{Starts}
-use Rattle.step_sweeps.specs.Sweeping.{MaySweep, IsEarly, MakesArcs, IsCovered, arcs_most}
+use Rattle.step_sweeps.specs.Sweeping.{MaySweep, IsEarly, SweepsArcs, IsCovered, arcs_most}
 use Rattle.step_sweeps.proofs.Faults.{start_fault}
 use Rattle.step_sweeps.proofs.Running.{not_of_step, file_stays, earlier_stays, the_fault}
 use Rattle.step_sweeps.proofs.Stops.{given_shows}
@@ -209,7 +210,7 @@ module _ {S : Type 0} (tells : S → Bool) (world : S → World) (counts : S →
   -- it was refused to begin
   pub start_refused : AreEarlier making.number making.operands → (e : SortFault)
       → StartsTable rule_of begins_of tells world counts making.operation making.n making.operands
-      (parts_of making.number) before mid (Err e) → MakesArcs tells world counts making anew anew before mid (Err e)
+      (parts_of making.number) before mid (Err e) → SweepsArcs tells world counts making anew anew before mid (Err e)
   start_refused earlier e started = record {
     going = record { step_is = refl; sweep_is = refl; budget_is = refl };
     files = tt;
@@ -218,7 +219,7 @@ module _ {S : Type 0} (tells : S → Bool) (world : S → World) (counts : S →
     undamaged = λ told g given. started.undamaged told g (given_to g (world before) earlier given);
     spent = λ was. let spent = started.leaves.spent.0 (the_fault e was) in absurd (omega (arith, spent));
     images = start_safe started.leaves.content;
-    damaged = λ told last gate. start_fault making.n making.operands
+    damaged = λ told last gate. start_fault (MissesAsked (AsksOwn making.operation making.operands)) making.n making.operands
         (files_from making.operands (parts_of making.number)) (world before) e refl refl refl
         (λ other. started.leaves.damage other told);
     ordered = tt;

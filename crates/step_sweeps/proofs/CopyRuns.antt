@@ -45,6 +45,7 @@ use Rattle.resumable.proofs.Makings.{copy_goes}
 use Rattle.resumable.proofs.Resting.{copy_sees}
 use Rattle.step_sweeps.specs.declared.diagram.MadeDiagram.{MadeDiagram}
 use Rattle.step_sweeps.specs.declared.task.Making.{Making}
+use Rattle.step_sweeps.specs.Damage.{MissesIn}
 use Rattle.step_sweeps.specs.Given.{Tables, AreEarlier}
 use Rattle.step_sweeps.specs.Kinds.{copy_kind}
 use Rattle.step_sweeps.specs.Made.{node_file, OnlyStep}
@@ -385,7 +386,7 @@ module _ {S : Type 0} (tells : S → Bool) (world : S → World) (counts : S →
     spent = λ was told g given. copy_work told g given.given (spent was);
     few_calls = λ told g given. copy_calls told g given.given;
     images = copy_images;
-    damaged = λ told empty. no_damage making.n making.operands (world old) e (none told empty);
+    damaged = λ told empty. no_damage (MissesIn making.operation making.operands) making.n making.operands (world old) e (none told empty);
     content = copy_content;
     counted = tt;
     few_anew = tt;

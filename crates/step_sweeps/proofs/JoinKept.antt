@@ -30,6 +30,7 @@ use Rattle.room_products.specs.Joined.{IsOperandOf}
 use Rattle.step_sweeps.specs.declared.diagram.MadeDiagram.{MadeDiagram}
 use Rattle.step_sweeps.specs.declared.task.Making.{Making}
 use Rattle.step_sweeps.specs.Ended.{KeepsMade}
+use Rattle.step_sweeps.specs.Damage.{MissesIn}
 use Rattle.step_sweeps.specs.Given.{Tables}
 use Rattle.step_sweeps.specs.Made.{node_file, OnlyStep}
 use Rattle.step_sweeps.specs.Makes.{IsGiven, HasNoGate, goes_on_by, table_by, nodes_for, work_for}
@@ -147,7 +148,7 @@ module _ {S : Type 0} (tells : S → Bool) (world : S → World) (counts : S →
         spent = λ was. absurd (never_spent e x at (let same : x ≡ RunsSpent = cc in same));
         few_calls = λ told_new g given. both_calls (Err e) keeps told_new g given;
         images = λ told_new g given. both_safe (Err e) keeps told_new g given;
-        damaged = λ told_new none. no_damage making.n making.operands (world old) x (spared told_new none);
+        damaged = λ told_new none. no_damage (MissesIn making.operation making.operands) making.n making.operands (world old) x (spared told_new none);
         content = both_change (Err e) keeps;
         counted = tt;
         few_anew = tt;

@@ -12,6 +12,7 @@ mod ImpliedWork
 mod Running
 mod StopsAnew
 mod Faults
+mod Confirmed
 mod StepStands
 mod UnderWay
 mod Stops

@@ -5,8 +5,7 @@ use Rattle.shelf_model.specs.declared.sort_fault.SortFault.{SortFault}
 use Rattle.shelf_model.specs.declared.sort_fault.SortFault.TheVariants.{RunsSpent}
 use Rattle.shelf_model.specs.Faults.{Faults}
 use Rattle.shelf_model.specs.Folder.{AreFiles}
-use Rattle.shelf_model.specs.Moments.{Throughout}
-use Rattle.shelf_model.specs.World.{Moment, World, now}
+use Rattle.shelf_model.specs.World.{World, now}
 use Rattle.shelf_model.proofs.Changing.{told_changed_then}
 use Rattle.shelf_model.proofs.Runs.{joins}
 use Rattle.run_tiers.specs.Faults.{OnlySortShelf}
@@ -26,6 +25,7 @@ use Rattle.step_sweeps.specs.Stops.{shown_by, sweeps_stop}
 use Rattle.step_sweeps.specs.declared.arcs.MadeArcs.{MadeArcs}
 use Rattle.step_sweeps.specs.declared.diagram.MadeDiagram.{MadeDiagram}
 use Rattle.step_sweeps.specs.declared.task.Making.{Making}
+use Rattle.step_sweeps.specs.Damage.{MissesIn}
 use Rattle.step_sweeps.specs.Given.{Tables, tuples_by}
 use Rattle.step_sweeps.specs.Going.{next_of, rest_calls}
 use Rattle.step_sweeps.specs.Makes.{IsGivenFor, goes_on_by, table_by, work_for, operand_nodes}
@@ -191,7 +191,7 @@ module _ {S : Type 0} (tells : S → Bool) (world : S → World) (counts : S →
             stops = both_stops after r second;
             damaged = err_more r _ _ (λ e none told anew no_gate.
                 let are = first.ordered (began told) anew no_gate in
-                no_damage making.n making.operands (world before) e (none told are.0 are.1)) second.undamaged;
+                no_damage (MissesIn making.operation making.operands) making.n making.operands (world before) e (none told are.0 are.1)) second.undamaged;
             content = told_changed_then tells world _ _ before at after (λ f is. is) first.content second.content;
             counted = ok_more r _ _ (λ d counted.
                 let grew = first.grew in

@@ -31,12 +31,11 @@ use Rattle.node_file.specs.Changes.{Changed}
 use Rattle.copied_diagrams.specs.Pairs.{ArePair, IsPairDamage}
 use Rattle.copied_diagrams.proofs.PairRuns.{looked_same, file_before}
 use Rattle.top_down_sweep.specs.declared.beginning.OperandFiles.{OperandFiles}
-use Rattle.node_reading.specs.Missing.{IsAbsent}
 use Rattle.resumable.specs.Diagrams.{diagram_rests}
 use Rattle.resumable.proofs.DiagramPoints.{diagram_local}
 use Rattle.step_sweeps.specs.declared.diagram.MadeDiagram.{MadeDiagram}
 use Rattle.step_sweeps.specs.declared.task.Making.{Making}
-use Rattle.step_sweeps.specs.Damage.{IsDamagedFile, IsArcsFault}
+use Rattle.step_sweeps.specs.Damage.{MissesIn, IsDamagedBy, IsOperandsFault, IsArcsFault}
 use Rattle.step_sweeps.specs.Given.{Tables}
 use Rattle.step_sweeps.specs.Made.{node_file, OnlyStep}
 use Rattle.step_sweeps.specs.Makes.{IsGiven, HasNoGate, table_by, nodes_for, work_for, goes_on_by}
@@ -47,31 +46,31 @@ use Rattle.step_sweeps.proofs.StopsAnew.{stops_anew}
 use Rattle.step_sweeps.proofs.Running.{gate_apart, ok_more, ok_both, err_more}
 
 -- damage of a file that is as it was
-still_damaged : (n : ℕ) (read : FileNo) (old new : World) (f : FileNo) (at : ℕ) → file new read ≡ file old read
-    → IsDamagedFile n read new f at → IsDamagedFile n read old f at
-still_damaged n read old new f at same damage =
+still_damaged : (Misses : List ℕ → ℕ → Type 0) (n : ℕ) (read : FileNo) (old new : World) (f : FileNo) (at : ℕ)
+    → file new read ≡ file old read → IsDamagedBy Misses n read new f at → IsDamagedBy Misses n read old f at
+still_damaged Misses n read old new f at same damage =
     subst (λ (x : File). (f ≡ read) × (((f ≡ read) × (at ≡ length x.bytes - node_size) × ((root : ℕ) → ¬ HasTrailer n root x.bytes))
-    ⊎ (IsDamagedNode n x.bytes at ⊎ ((key : ℕ) × IsAbsent x.bytes key at)))) same damage
+    ⊎ (IsDamagedNode n x.bytes at ⊎ Misses x.bytes at))) same damage
 
 -- so a fault that is found after a look was there before
-fault_before : (n looked : ℕ) (operands : OperandFiles) (old mid : World) (e : SortFault) → Looked looked old mid
-    → IsArcsFault n operands mid e → IsArcsFault n operands old e
-fault_before n looked operands old mid Shelf look is = tt
-fault_before n looked operands old mid (Damaged f at) look (inl one) =
-    inl (still_damaged n operands.first old mid f at (looked_same looked operands.first old mid look) one)
-fault_before n looked operands old mid (Damaged f at) look (inr (inl two)) =
-    inr (inl (still_damaged n operands.second old mid f at (looked_same looked operands.second old mid look) two))
-fault_before n looked operands old mid (Damaged f at) look (inr (inr three)) =
-    inr (inr (still_damaged n operands.third old mid f at (looked_same looked operands.third old mid look) three))
-fault_before n looked operands old mid RunsSpent look is = tt
+fault_before : (Misses : List ℕ → ℕ → Type 0) (n looked : ℕ) (operands : OperandFiles) (old mid : World) (e : SortFault)
+    → Looked looked old mid → IsOperandsFault Misses n operands mid e → IsOperandsFault Misses n operands old e
+fault_before Misses n looked operands old mid Shelf look is = tt
+fault_before Misses n looked operands old mid (Damaged f at) look (inl one) =
+    inl (still_damaged Misses n operands.first old mid f at (looked_same looked operands.first old mid look) one)
+fault_before Misses n looked operands old mid (Damaged f at) look (inr (inl two)) =
+    inr (inl (still_damaged Misses n operands.second old mid f at (looked_same looked operands.second old mid look) two))
+fault_before Misses n looked operands old mid (Damaged f at) look (inr (inr three)) =
+    inr (inr (still_damaged Misses n operands.third old mid f at (looked_same looked operands.third old mid look) three))
+fault_before Misses n looked operands old mid RunsSpent look is = tt
 
 -- a trailer that isn't there is damage of an operand
-pub pair_fault : (n : ℕ) (operands : OperandFiles) (world : World) (e : StreamFault)
-    → IsPairDamage n operands.first operands.second world e → IsArcsFault n operands world (handed_on e)
-pair_fault n operands world stream.Shelf damage = tt
-pair_fault n operands world (stream.Damaged f at) (inl one) =
+pub pair_fault : (Misses : List ℕ → ℕ → Type 0) (n : ℕ) (operands : OperandFiles) (world : World) (e : StreamFault)
+    → IsPairDamage n operands.first operands.second world e → IsOperandsFault Misses n operands world (handed_on e)
+pair_fault Misses n operands world stream.Shelf damage = tt
+pair_fault Misses n operands world (stream.Damaged f at) (inl one) =
     inl (one.0, inl (one.0, one.1.0, one.1.1))
-pair_fault n operands world (stream.Damaged f at) (inr two) =
+pair_fault Misses n operands world (stream.Damaged f at) (inr two) =
     inr (inl (two.0, inl (two.0, two.1.0, two.1.1)))
 
 -- what a step is given is as it was
@@ -236,7 +235,7 @@ module _ {S : Type 0} (tells : S → Bool) (world : S → World) (counts : S →
     spent = λ was told g is. absurd (let same : e ≡ RunsSpent = cc in (makes.cause told).1 same);
     few_calls = λ told g is. let calls = makes.few_calls told g is.given in omega (arith, calls);
     images = λ told g is. safe_anew making g (world old) (world new) is.none (makes.content.did told);
-    damaged = λ told none. no_damage making.n making.operands (world old) e (makes.cause told).0;
+    damaged = λ told none. no_damage (MissesIn making.operation making.operands) making.n making.operands (world old) e (makes.cause told).0;
     content = node_changes tells world making.number old new makes.content;
     counted = tt;
     few_anew = tt;
@@ -263,7 +262,7 @@ module _ {S : Type 0} (tells : S → Bool) (world : S → World) (counts : S →
         (let same : x ≡ RunsSpent = cc in let never : Shelf ≡ RunsSpent = sym (is told) ∙ same in cc);
     few_calls = λ told g given. few told g given.given;
     images = λ told g given. safe_anew making g (world old) (world new) given.none (content.did told);
-    damaged = λ told none. subst (IsArcsFault making.n making.operands (world old)) (sym (is told)) tt;
+    damaged = λ told none. subst (IsArcsFault making.operation making.n making.operands (world old)) (sym (is told)) tt;
     content = node_changes tells world making.number old new content;
     counted = tt;
     few_anew = tt;
@@ -309,7 +308,7 @@ module _ {S : Type 0} (tells : S → Bool) (world : S → World) (counts : S →
             (looked_changed making.number looked (world old) (world mid) (looked_at told)))
             (makes.images told g (still_given making looked (world old) (world mid) g (looked_at told) given));
         damaged = err_more r _ _ (λ e damaged told none.
-            fault_before making.n looked making.operands (world old) (world mid) e (looked_at told)
+            fault_before (MissesIn making.operation making.operands) making.n looked making.operands (world old) (world mid) e (looked_at told)
             (damaged told (still_none making.number looked (world old) (world mid) (looked_at told) none)))
             makes.damaged;
         content = told_changed_then tells world _ _ old mid new (λ f is. is)
@@ -373,8 +372,8 @@ module _ {S : Type 0} (tells : S → Bool) (world : S → World) (counts : S →
     few_calls = λ told g given. let few = (look.did told).few in omega (arith, few);
     images = λ told g given. safe_anew making g (world old) (world new) given.none
         (looked_changed making.number 4 (world old) (world new) (look.did told));
-    damaged = λ told none. subst (IsArcsFault making.n making.operands (world old)) (sym is)
-        (pair_fault making.n making.operands (world old) e (damaged told));
+    damaged = λ told none. subst (IsArcsFault making.operation making.n making.operands (world old)) (sym is)
+        (pair_fault (MissesIn making.operation making.operands) making.n making.operands (world old) e (damaged told));
     content = looked_step tells world making.number 4 old new look;
     counted = tt;
     few_anew = tt;

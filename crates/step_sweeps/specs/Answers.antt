@@ -30,7 +30,7 @@ use Rattle.step_sweeps.specs.declared.answers.Answered.{Answered}
 use Rattle.step_sweeps.specs.Going.{next_of, rest_calls}
 use Rattle.step_sweeps.specs.Stops.{shown_by, step_stop}
 use Rattle.step_sweeps.specs.Made.{IsAnswer, IsCounted, FewAnew}
-use Rattle.step_sweeps.specs.Damage.{IsReadFault, IsImplicationFault, MissesNone, MissesNamed}
+use Rattle.step_sweeps.specs.Damage.{IsReadFault, IsImplicationFault, MissesNone, MissesNamed, MissesAsked}
 
 -- a question on diagrams: when files are those of the tables that it is asked of, its answer and its work, when a step
 -- of that number goes on with it, and what its checkpoints rest on; how many nodes the files have; where one
@@ -76,18 +76,25 @@ comparing n left right = record {
 abbrev pub refutation_of : ℕ → TwoTables → Implication
 refutation_of n g = record { n = n; left = g.left; right = g.right }
 
--- whether the left one implies the right one everywhere
-abbrev pub implying : ℕ → FileNo → FileNo → Question TwoTables
-implying n left right = record {
+-- whether the left one implies the right one everywhere, to one who misses nodes of their files in that way
+abbrev pub implying_to : (List ℕ → ℕ → Type 0) → ℕ → FileNo → FileNo → Question TwoTables
+implying_to Misses n left right = record {
   are_given = AreTwo n left right;
   answer = λ g. is_leq g.left g.right;
   work = λ g. work_for n (Leq 0 1) (g.left ∷ g.right ∷ []);
   goes_on = λ number g. ImplicationGoesOn n left right number g.left g.right;
   rests = implication_rests;
   nodes = λ r. count_of (r left) + count_of (r right) + count_of (r right);
-  is_fault = IsImplicationFault n left right;
+  is_fault = IsImplicationFault Misses n left right;
   some = 11;
 }
+
+-- so it is asked of the sweep, and so once a file in which that found damage was read whole
+abbrev pub refuting : ℕ → FileNo → FileNo → Question TwoTables
+refuting = implying_to (MissesAsked Unit)
+
+abbrev pub implying : ℕ → FileNo → FileNo → Question TwoTables
+implying = implying_to MissesNamed
 
 -- the value of a function at the bits that stand in the text from a byte on
 abbrev pub evaluating : ℕ → FileNo → List ℕ → ℕ → Question (List Bool)

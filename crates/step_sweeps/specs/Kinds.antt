@@ -12,10 +12,12 @@ use Rattle.top_down_sweep.specs.Damage as arcs
 use Rattle.top_down_sweep.specs.Fuel.{fuel_of}
 use Rattle.top_down_sweep.specs.Making.{accounts_along}
 use Rattle.top_down_sweep.specs.Operations.{rule_of, begins_of}
-use Rattle.top_down_sweep.specs.Sweeps.{SweepTask, task_of, accounts}
+use Rattle.top_down_sweep.specs.Resumes.{top_saving}
+use Rattle.top_down_sweep.specs.Sweeps.{SweepTask, whole_task, accounts}
 use Rattle.top_down_sweep.specs.Trusting.{sweep_trusted}
 use Rattle.table_work.specs.declared.sweep.TableSweep.{TableSweep}
 use Rattle.table_work.specs.Jobs.{TableWork, MakesWithin, turns_of}
+use Rattle.table_work.specs.TableSaving.{table_saving}
 use Rattle.table_work.specs.Tables.{sweep_of}
 use Rattle.reduce_sweep.specs.declared.reduce.ReduceSweep.{ReduceSweep}
 use Rattle.reduce_sweep.specs.Calls as reductions
@@ -24,7 +26,7 @@ use Rattle.reduce_sweep.specs.Remaining.{Diagram, RemainsOf}
 use Rattle.reduce_sweep.specs.RemainingLaws.{lists_remain}
 use Rattle.reduce_sweep.specs.Resumes.{reduce_saving}
 use Rattle.reduce_sweep.specs.Sweeps as reduce
-use Rattle.resumable.specs.Diagrams.{arcs_saving}
+use Rattle.resumable.specs.Diagrams.{step_words}
 
 abbrev pub copy_kind : sweep.Ghosts CopySweep
 copy_kind = record {
@@ -50,13 +52,13 @@ arcs_kind = record {
   fuel = λ s. fuel_of (sweep_of s);
   left = λ s world job. turns_of (sweep_of s) world job;
   accounts = accounts_along sweep_of (accounts StepOperation);
-  damaged = λ s world e. arcs.IsDamage (sweep_of s) world e;
-  Task = SweepTask;
-  task = λ s. task_of (sweep_of s);
-  saving = arcs_saving;
+  damaged = λ s world e. arcs.IsDamage rule_of begins_of (sweep_of s) world e;
+  Task = SweepTask × StepOperation;
+  task = λ s. whole_task (sweep_of s);
+  saving = table_saving (top_saving step_words rule_of begins_of);
   ready = λ s. top_down.IsReady (sweep_of s);
   in_step = λ s world. IsInStep (sweep_of s) world;
-  trusts = λ s world. IsTrusted (sweep_of s) world;
+  trusts = λ s world. IsTrusted rule_of begins_of (sweep_of s) world;
   trusted = λ s world job is. sweep_trusted rule_of begins_of (sweep_of s) world is.makes.task is.makes.remains;
 }
 

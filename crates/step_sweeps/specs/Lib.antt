@@ -15,5 +15,6 @@ pub mod Points
 pub mod Begun
 pub mod Pairs
 pub mod Damage
+pub mod Confirming
 pub mod Parts
 pub mod Copied

@@ -93,7 +93,7 @@ pub record Makes {S : Type 0} (tells : S → Bool) (world : S → World) (counts
   -- whatever the files hold: where the step began anew a place is named only where an operand is damaged, and only files
   -- of the step are changed
   pub damaged : IfErr result (λ e. IsTrue (tells after) → going.last ≡ None → HasNoGate making.number (world before)
-      → IsArcsFault making.n making.operands (world before) e)
+      → IsArcsFault making.operation making.n making.operands (world before) e)
   pub content : Told tells before after
       (Ran (OnlyStep making.number (now (world before))) (world before) (world after))
   pub counted : IfOk result (λ m. IsCounted m.turns m.next)

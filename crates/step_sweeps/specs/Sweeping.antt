@@ -1,5 +1,5 @@
 -- A step that makes its diagram by sweeps, begun or gone on with: its arcs, and their reduction.
-use Rattle.std.specs.Prelude.{◌≡◌, ◌≢◌, ◌⊎◌, ℕ, ◌+◌, ◌-◌, ◌*◌, ◌^◌, ◌<◌, ◌≤◌, max, Bool, IsTrue, Option, Some, None, length}
+use Rattle.std.specs.Prelude.{◌≡◌, ◌≢◌, ◌⊎◌, ℕ, ◌+◌, ◌-◌, ◌*◌, ◌^◌, ◌<◌, ◌≤◌, max, Bool, IsTrue, List, Option, Some, None, length}
 use Rattle.std.specs.Prelude.{Result, IfOk, IfErr, IsErrOf, OnOk}
 use Rattle.shelf_model.specs.declared.file_no.FileNo.{FileNo}
 use Rattle.shelf_model.specs.declared.sort_fault.SortFault.{SortFault}
@@ -33,7 +33,7 @@ use Rattle.step_sweeps.specs.declared.diagram.MadeDiagram.{MadeDiagram}
 use Rattle.step_sweeps.specs.declared.diagram.Stage.{Stage}
 use Rattle.step_sweeps.specs.declared.diagram.Stage.TheVariants.{Anew, Copying, MakingArcs, Reducing}
 use Rattle.step_sweeps.specs.declared.task.Making.{Making}
-use Rattle.step_sweeps.specs.Damage.{IsArcsFault}
+use Rattle.step_sweeps.specs.Damage.{MissesAsked, AsksOwn, MissesIn, IsOperandsFault, IsArcsFault}
 use Rattle.step_sweeps.specs.Given.{Tables, tuples_by}
 use Rattle.step_sweeps.specs.Going.{rest_calls}
 use Rattle.step_sweeps.specs.Stops.{shown_by, arcs_stop, sweeps_stop, IsSaidOf}
@@ -129,7 +129,7 @@ pub record Sweeps {S : Type 0} (tells : S → Bool) (world : S → World) (count
       → Throughout (world before) (world after)
       (λ (m : Moment). AreSafe (goes_on_by making g) making.number m.folder)
   pub damaged : IfErr result (λ e. IsTrue (tells after) → going.last ≡ None → HasNoGate making.number (world before)
-      → IsArcsFault making.n making.operands (world before) e)
+      → IsArcsFault making.operation making.n making.operands (world before) e)
   pub content : Told tells before after
       (Ran (OnlyStep making.number (now (world before))) (world before) (world after))
   pub counted : IfOk result (λ m. (going.turns ≤ m.turns) × IsCounted m.turns m.next)
@@ -211,9 +211,10 @@ pub record TakesFew (making : Making) (going : Going) (g : Tables) : Type 0 wher
   pub few : going.turns + left + (10 * tuples_by making.operation making.n g + 10) ≤ most_turns going.last making going g
   pub takes : Takes (left + 1) left (owed_parts going.last)
 
--- the sweep makes a step's arcs, or is refused
-pub record MakesArcs {S : Type 0} (tells : S → Bool) (world : S → World) (counts : S → Faults) (making : Making)
-    (old new : Going) (before after : S) (result : Result MadeArcs SortFault) : Type 0 where
+-- a step's arcs are made, or that is refused by one who misses nodes of the operands in that way
+pub record ComesToArcs (Misses : List ℕ → ℕ → Type 0) {S : Type 0} (tells : S → Bool) (world : S → World)
+    (counts : S → Faults) (making : Making) (old new : Going) (before after : S) (result : Result MadeArcs SortFault)
+    : Type 0 where
   pub going : SameGoing old new
   pub files : IfOk result (λ m. HasArcFiles making.number m.arcs)
   pub parts : IfOk result (λ m. (m.parts.step ≡ making.number) × ((5 ≤ m.parts.next) × (m.parts.next ≤ 2 ^ 32)))
@@ -227,7 +228,7 @@ pub record MakesArcs {S : Type 0} (tells : S → Bool) (world : S → World) (co
       → Throughout (world before) (world after)
       (λ (m : Moment). AreSafe (goes_on_by making g) making.number m.folder)
   pub damaged : IfErr result (λ e. IsTrue (tells after) → old.last ≡ None → HasNoGate making.number (world before)
-      → IsArcsFault making.n making.operands (world before) e)
+      → IsOperandsFault Misses making.n making.operands (world before) e)
   pub ordered : IfOk result (λ m. IsTrue (tells after) → old.last ≡ None → HasNoGate making.number (world before)
       → AreOrdered m.arcs (world after) × IsCovered making.number (world after))
   pub content : Told tells before after
@@ -254,6 +255,17 @@ pub record MakesArcs {S : Type 0} (tells : S → Bool) (world : S → World) (co
       + (arcs_stop + rest_calls old.last (operand_nodes making (reads_of (world before)))))
       (world before) (world after)
   pub faults : OnlySortShelf (counts before) (counts after) result
+
+-- so the sweep makes them, or is refused
+abbrev pub SweepsArcs : {S : Type 0} → (S → Bool) → (S → World) → (S → Faults) → Making → Going → Going → S → S
+    → Result MadeArcs SortFault → Type 0
+SweepsArcs tells world counts making = ComesToArcs (MissesAsked (AsksOwn making.operation making.operands)) tells world
+    counts making
+
+-- and so they are made once an operand in which it found damage was read whole
+abbrev pub MakesArcs : {S : Type 0} → (S → Bool) → (S → World) → (S → Faults) → Making → Going → Going → S → S
+    → Result MadeArcs SortFault → Type 0
+MakesArcs tells world counts making = ComesToArcs (MissesIn making.operation making.operands) tells world counts making
 
 -- the arcs are such, and with so many turns for each source and nine the turns are within the step's work
 pub record AreReducible (making : Making) (going : Going) (g : Tables) (each : ℕ) (m : MadeArcs) (world : World)

@@ -75,7 +75,7 @@ pub record MakesAnew {S : Type 0} (tells : S → Bool) (world : S → World) (co
       → Throughout (world before) (world after)
       (λ (m : Moment). AreSafe (goes_on_by making g) making.number m.folder)
   pub damaged : IfErr result (λ e. IsTrue (tells after) → HasNoGate making.number (world before)
-      → IsArcsFault making.n making.operands (world before) e)
+      → IsArcsFault making.operation making.n making.operands (world before) e)
   pub content : Told tells before after
       (Ran (OnlyStep making.number (now (world before))) (world before) (world after))
   pub counted : IfOk result (λ m. (earlier ≤ m.turns) × IsCounted m.turns m.next)

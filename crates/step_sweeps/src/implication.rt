@@ -2,12 +2,13 @@
 ghost use Rattle.std.specs.Prelude.{◌≡◌, ◌↔◌, ◌<◌, ◌≤◌, IsTrue, Err, IfOk, IfErr, length};
 ghost use Rattle.resumable.specs.Answers.{two_files};
 ghost use Rattle.resumable.specs.Diagrams.{arcs_of};
-ghost use Rattle.step_sweeps.specs.Answers.{Answers, implying, refutation_of};
+ghost use Rattle.step_sweeps.specs.Answers.{Answers, refuting, implying, refutation_of};
 ghost use Rattle.step_sweeps.specs.Begun.{Begun};
 ghost use Rattle.step_sweeps.specs.Going.{MayGoOn};
 ghost use Rattle.step_sweeps.specs.Points.{IsOfImplication, AreMadeOf};
 
 use crate::Answered;
+use crate::confirming::confirmed;
 use crate::foreign::foreign_point;
 use crate::reduction::PARTS;
 use file_numbers::{INNER_PART, ends_file, inner_file};
@@ -17,11 +18,11 @@ use run_merge::Parts;
 use shelf_model::{FileNo, Shelf, SortFault};
 use sweep_checkpoint::{Going, run_saved};
 use sweep_core::{Checkpoint, Resume, Sweep};
-use top_down_sweep::{Files, Product, TopDownSweep};
+use top_down_sweep::{Files, OperandFiles, Product, TopDownSweep};
 
 /// Whether the left function implies the right one everywhere, of the files of two diagrams of `n` variables: the arcs
 /// of "left and not right" are made, in parts 3 and 4 of the step, until one leads to 1. It begins, or goes on from the
-/// step's last checkpoint.
+/// step's last checkpoint. Where one of the files is found damaged, all its nodes are read before a place is named.
 pub fn imply<S: Shelf>(
     n: u32,
     left: FileNo,
@@ -34,6 +35,33 @@ pub fn imply<S: Shelf>(
     requires going { MayGoOn going.old }
     requires earlier { (left.step < going.old.step) × (right.step < going.old.step) }
     ensures answers { Answers S.tells S.world S.faults (implying n left right) going.old shelf.old shelf.new result }
+{
+    match refute(n, left, right, going, room, shelf) {
+        Ok(answered) => Ok(answered),
+        Err(fault) => {
+            let operands = OperandFiles {
+                first: left,
+                second: right,
+                third: right,
+            };
+            Err(confirmed(n, operands, fault, room, shelf))
+        }
+    }
+}
+
+// The sweep that answers it, begun or rebuilt, and run to its end.
+fn refute<S: Shelf>(
+    n: u32,
+    left: FileNo,
+    right: FileNo,
+    going: &mut Going,
+    room: &mut [Rec],
+    shelf: &mut S,
+) -> Result<Answered, SortFault>
+    requires room { 16384 ≤ length room.old }
+    requires going { MayGoOn going.old }
+    requires earlier { (left.step < going.old.step) × (right.step < going.old.step) }
+    ensures answers { Answers S.tells S.world S.faults (refuting n left right) going.old shelf.old shelf.new result }
 {
     let mut sweep = begin_implication(n, left, right, going, room, shelf)?;
     run_saved(&mut sweep, going, shelf)?;
@@ -60,9 +88,9 @@ fn begin_implication<'r, S: Shelf>(
     requires room { 16384 ≤ length room.old }
     requires going { MayGoOn going.now }
     requires earlier { (left.step < going.now.step) × (right.step < going.now.step) }
-    ensures begun { IfOk result (Begun S.tells S.world S.faults ⟦<LeqSweep<'r> as Sweep<'r>>⟧ (implying n left right)
+    ensures begun { IfOk result (Begun S.tells S.world S.faults ⟦<LeqSweep<'r> as Sweep<'r>>⟧ (refuting n left right)
         (refutation_of n) (arcs_of n (two_files left right) going.now.step) going.now shelf.old shelf.new) }
-    ensures refused { IfErr result (λ e. Answers S.tells S.world S.faults (implying n left right) going.now
+    ensures refused { IfErr result (λ e. Answers S.tells S.world S.faults (refuting n left right) going.now
         shelf.old shelf.new (Err e)) }
 {
     let Some(point) = &going.last else {

@@ -4,6 +4,7 @@
 
 mod answers;
 mod arcs;
+mod confirming;
 mod copy;
 mod diagram;
 mod ended;
