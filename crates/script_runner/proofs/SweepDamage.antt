@@ -20,7 +20,7 @@ use Rattle.step_work.specs.Tuples.{sweeps}
 use Rattle.sound_image.specs.Files.{node_file, checkpoint_gate}
 use Rattle.step_work.specs.Plans.{no_step}
 use Rattle.sweep_checkpoint.specs.Loads.{IsLoadFault}
-use Rattle.step_engine.specs.StepFaults.{MissesNone, MissesNamed, MissesAsked, IsKindFault, IsDamagedAmong, IsReadingFault, IsMakingFault, IsStepFault}
+use Rattle.step_engine.specs.StepFaults.{MissesNone, MissesNamed, IsKindFault, IsDamagedAmong, IsReadingFault, IsMakingFault, IsStepFault}
 use Rattle.script_runner.specs.Running.{IsMetDamage}
 
 -- a station with that folder
@@ -48,7 +48,7 @@ reading_there Misses n xs a b sort.RunsSpent same is = is
 making_there : (n : ℕ) (xs : List ℕ) (a b : World) (fault : SortFault) → (now b).folder ≡ (now a).folder
     → IsMakingFault n xs a fault → IsMakingFault n xs b fault
 making_there n xs a b sort.Shelf same is = tt
-making_there n xs a b (sort.Damaged f at) same is = among_there MissesAsked n xs a b f at same is
+making_there n xs a b (sort.Damaged f at) same is = among_there MissesNamed n xs a b f at same is
 making_there n xs a b sort.RunsSpent same is = tt
 
 pub fault_there : (n : ℕ) (s : Step) (a b : World) (fault : SortFault) → (now b).folder ≡ (now a).folder
@@ -85,18 +85,18 @@ pub fault_passes : (P : ℕ → Bool) (n : ℕ) (s : Step) (world : World) (f : 
 fault_passes P n (Const value) world f at swept all fault = absurd cc
 fault_passes P n (Var level) world f at swept all fault = absurd cc
 fault_passes P n (Pair op left right) world f at swept all fault =
-    among_passes MissesAsked P n (left ∷ right ∷ []) world f at all fault
+    among_passes MissesNamed P n (left ∷ right ∷ []) world f at all fault
 fault_passes P n (Ite test if_one if_zero) world f at swept all fault =
-    among_passes MissesAsked P n (test ∷ if_one ∷ if_zero ∷ []) world f at all fault
+    among_passes MissesNamed P n (test ∷ if_one ∷ if_zero ∷ []) world f at all fault
 fault_passes P n (Quantify kind operand level) world f at swept all fault =
-    among_passes MissesAsked P n (operand ∷ []) world f at all fault
+    among_passes MissesNamed P n (operand ∷ []) world f at all fault
 fault_passes P n (Restrict operand level value) world f at swept all fault =
-    among_passes MissesAsked P n (operand ∷ []) world f at all fault
+    among_passes MissesNamed P n (operand ∷ []) world f at all fault
 fault_passes P n (Drop gone) world f at swept all fault = absurd cc
 fault_passes P n (Same left right) world f at swept all fault =
     among_passes MissesNone P n (left ∷ right ∷ []) world f at all fault
 fault_passes P n (Leq left right) world f at swept all fault =
-    among_passes MissesAsked P n (left ∷ right ∷ []) world f at all fault
+    among_passes MissesNamed P n (left ∷ right ∷ []) world f at all fault
 fault_passes P n (Eval operand bits) world f at swept all fault =
     among_passes MissesNamed P n (operand ∷ []) world f at all fault
 fault_passes P n (Size operand) world f at swept all fault = absurd cc

@@ -201,7 +201,7 @@ one_read Misses n of world (sort.Damaged f place) (inr two) = inl two
 one_read Misses n of world sort.RunsSpent is = is
 
 implied : (n left right : ℕ) (world : World) (e : SortFault)
-    → IsImplicationFault n (node_file left) (node_file right) world e → IsStepFault n (Leq left right) world e
+    → IsImplicationFault MissesNamed n (node_file left) (node_file right) world e → IsStepFault n (Leq left right) world e
 implied n left right world sort.Shelf is = tt
 implied n left right world (sort.Damaged f at) (inl one) = inl one
 implied n left right world (sort.Damaged f at) (inr two) = inr (inl two)
@@ -214,10 +214,10 @@ same_fault n left right f g f_is g_is step is world e fault =
     (subst (λ v. v) (λ i. IsReadFault MissesNone n (f_is i) (g_is i) world e) fault))
 
 pub leq_fault : (n left right : ℕ) (f g : FileNo) → f ≡ node_file left → g ≡ node_file right → (step : Step) → step ≡ Leq left right
-    → (world : World) (e : SortFault) → IsImplicationFault n f g world e → IsStepFault n step world e
+    → (world : World) (e : SortFault) → IsImplicationFault MissesNamed n f g world e → IsStepFault n step world e
 leq_fault n left right f g f_is g_is step is world e fault =
     subst (λ s. IsStepFault n s world e) (sym is) (implied n left right world e
-    (subst (λ v. v) (λ i. IsImplicationFault n (f_is i) (g_is i) world e) fault))
+    (subst (λ v. v) (λ i. IsImplicationFault MissesNamed n (f_is i) (g_is i) world e) fault))
 
 pub eval_fault : (n of at : ℕ) (f : FileNo) → f ≡ node_file of → (step : Step) → step ≡ Eval of at → (world : World) (e : SortFault)
     → IsReadFault MissesNamed n f f world e → IsStepFault n step world e

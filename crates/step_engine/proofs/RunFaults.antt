@@ -21,7 +21,7 @@ use Rattle.sweep_checkpoint.specs.Gated.{present, last_gated}
 use Rattle.sweep_checkpoint.specs.Loads.{Tells}
 use Rattle.step_sweeps.specs.Damage.{IsDamagedBy}
 use Rattle.sound_image.specs.Files.{node_file, checkpoint_gate}
-use Rattle.step_engine.specs.StepFaults.{MissesNone, MissesNamed, MissesAsked, IsDamagedAmong, IsReadingFault, IsMakingFault, IsStepFault, IsRunFault, IsSoundFault, IsOfKind}
+use Rattle.step_engine.specs.StepFaults.{MissesNone, MissesNamed, IsDamagedAmong, IsReadingFault, IsMakingFault, IsStepFault, IsRunFault, IsSoundFault, IsOfKind}
 use Rattle.step_engine.proofs.Told.{is_told, gate_filled, gate_empty}
 
 -- what a call counted that ended well, whatever it gives
@@ -68,7 +68,7 @@ module _ (n : ℕ) (old new : World) (reads : (k : ℕ) → (file new (node_file
 
   making_before : (ks : List ℕ) (e : SortFault) → IsMakingFault n ks new e → IsMakingFault n ks old e
   making_before ks sort.Shelf is = tt
-  making_before ks (sort.Damaged f at) is = among_before MissesAsked ks f at is
+  making_before ks (sort.Damaged f at) is = among_before MissesNamed ks f at is
   making_before ks sort.RunsSpent is = tt
 
   pub fault_before : (step : Step) (e : SortFault) → sweeps step ≡ true → IsStepFault n step new e → IsStepFault n step old e

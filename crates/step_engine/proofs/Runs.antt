@@ -34,9 +34,12 @@ use Rattle.sound_image.specs.Entries as entries
 use Rattle.sound_image.specs.Entries.{IsEntryOfStep, kind_of, answer_of, work_of}
 use Rattle.sound_image.specs.Holds.{Holds}
 use Rattle.sound_image.specs.Holds as held
+use Rattle.top_down_sweep.specs.declared.beginning.OperandFiles.{OperandFiles}
+use Rattle.top_down_sweep.specs.declared.steps.StepOperation.{StepOperation}
+use Rattle.top_down_sweep.specs.declared.steps.StepOperation.TheVariants as operations
 use Rattle.step_sweeps.specs.declared.diagram.MadeDiagram.{MadeDiagram}
 use Rattle.step_sweeps.specs.declared.task.Making.{Making}
-use Rattle.step_sweeps.specs.Damage.{IsArcsFault}
+use Rattle.step_sweeps.specs.Damage.{IsDamagedBy, MissesNamed, AsksOwn, MissesIn, IsArcsFault}
 use Rattle.step_sweeps.specs.Given.{AreEarlier}
 use Rattle.step_sweeps.specs.Going.{rest_calls}
 use Rattle.step_sweeps.specs.Made.{IsCounted}
@@ -177,7 +180,7 @@ pub record IsOperation (n number : ℕ) (step : Step) (sweeping : Sweeping) : Ty
   pub counts : (job : Job) → entries.count_of job number step ≡ nodes_at job number
   pub earlier : IsTrue (list_all (λ k. nat_lt k number) (operands step)) → AreEarlier number sweeping.operands
   pub within : IsTrue (list_all (λ level. nat_lt level n) (levels_of step)) → IsWithin n sweeping.operation
-  pub fault : (world : World) (e : SortFault) → IsArcsFault n sweeping.operands world e → IsStepFault n step world e
+  pub fault : (world : World) (e : SortFault) → IsArcsFault sweeping.operation n sweeping.operands world e → IsStepFault n step world e
   pub reads_is : reads step ≡ true
   pub nodes : (r : FileNo → List ℕ)
       → count_of (r sweeping.operands.first) + count_of (r sweeping.operands.second) + count_of (r sweeping.operands.third) ≤ nodes_read step r
@@ -189,30 +192,50 @@ first_below number a more h = ltb-true a number (and_parts (nat_lt a number) (li
 pub more_below : (number a : ℕ) (more : List ℕ) → IsTrue (list_all (λ k. nat_lt k number) (a ∷ more)) → IsTrue (list_all (λ k. nat_lt k number) more)
 more_below number a more h = (and_parts (nat_lt a number) (list_all (λ k. nat_lt k number) more) h).1
 
+-- where an operation asks each file for its own pointers, one that misses a node misses one that another names
+named_in : (operation : StepOperation) (operands : OperandFiles) (n : ℕ) (read : FileNo) (world : World) (f : FileNo)
+    (at : ℕ) → AsksOwn operation operands → IsDamagedBy (MissesIn operation operands) n read world f at
+    → IsDamagedBy MissesNamed n read world f at
+named_in operation operands n read world f at own (is, inl trailer) = (is, inl trailer)
+named_in operation operands n read world f at own (is, inr (inl node)) = (is, inr (inl node))
+named_in operation operands n read world f at own (is, inr (inr missed)) = (is, inr (inr (missed.named own)))
+
 -- faults of two, three and one operands
-two_faults : (n a b : ℕ) (world : World) (e : SortFault) → IsArcsFault n (files_of a b b) world e
+two_faults : (operation : StepOperation) (n a b : ℕ) (world : World) (e : SortFault)
+    → AsksOwn operation (files_of a b b) → IsArcsFault operation n (files_of a b b) world e
     → IsMakingFault n (a ∷ b ∷ []) world e
-two_faults n a b world sort.Shelf is = tt
-two_faults n a b world (sort.Damaged f at) (inl one) = inl one
-two_faults n a b world (sort.Damaged f at) (inr (inl two)) = inr (inl two)
-two_faults n a b world (sort.Damaged f at) (inr (inr two)) = inr (inl two)
-two_faults n a b world sort.RunsSpent is = tt
+two_faults operation n a b world sort.Shelf own is = tt
+two_faults operation n a b world (sort.Damaged f at) own (inl one) =
+    inl (named_in operation (files_of a b b) n _ world f at own one)
+two_faults operation n a b world (sort.Damaged f at) own (inr (inl two)) =
+    inr (inl (named_in operation (files_of a b b) n _ world f at own two))
+two_faults operation n a b world (sort.Damaged f at) own (inr (inr two)) =
+    inr (inl (named_in operation (files_of a b b) n _ world f at own two))
+two_faults operation n a b world sort.RunsSpent own is = tt
 
-three_faults : (n a b c : ℕ) (world : World) (e : SortFault) → IsArcsFault n (files_of a b c) world e
+three_faults : (operation : StepOperation) (n a b c : ℕ) (world : World) (e : SortFault)
+    → AsksOwn operation (files_of a b c) → IsArcsFault operation n (files_of a b c) world e
     → IsMakingFault n (a ∷ b ∷ c ∷ []) world e
-three_faults n a b c world sort.Shelf is = tt
-three_faults n a b c world (sort.Damaged f at) (inl one) = inl one
-three_faults n a b c world (sort.Damaged f at) (inr (inl two)) = inr (inl two)
-three_faults n a b c world (sort.Damaged f at) (inr (inr three)) = inr (inr (inl three))
-three_faults n a b c world sort.RunsSpent is = tt
+three_faults operation n a b c world sort.Shelf own is = tt
+three_faults operation n a b c world (sort.Damaged f at) own (inl one) =
+    inl (named_in operation (files_of a b c) n _ world f at own one)
+three_faults operation n a b c world (sort.Damaged f at) own (inr (inl two)) =
+    inr (inl (named_in operation (files_of a b c) n _ world f at own two))
+three_faults operation n a b c world (sort.Damaged f at) own (inr (inr three)) =
+    inr (inr (inl (named_in operation (files_of a b c) n _ world f at own three)))
+three_faults operation n a b c world sort.RunsSpent own is = tt
 
-one_fault : (n a : ℕ) (world : World) (e : SortFault) → IsArcsFault n (files_of a a a) world e
+one_fault : (operation : StepOperation) (n a : ℕ) (world : World) (e : SortFault)
+    → AsksOwn operation (files_of a a a) → IsArcsFault operation n (files_of a a a) world e
     → IsMakingFault n (a ∷ []) world e
-one_fault n a world sort.Shelf is = tt
-one_fault n a world (sort.Damaged f at) (inl one) = inl one
-one_fault n a world (sort.Damaged f at) (inr (inl one)) = inl one
-one_fault n a world (sort.Damaged f at) (inr (inr one)) = inl one
-one_fault n a world sort.RunsSpent is = tt
+one_fault operation n a world sort.Shelf own is = tt
+one_fault operation n a world (sort.Damaged f at) own (inl one) =
+    inl (named_in operation (files_of a a a) n _ world f at own one)
+one_fault operation n a world (sort.Damaged f at) own (inr (inl one)) =
+    inl (named_in operation (files_of a a a) n _ world f at own one)
+one_fault operation n a world (sort.Damaged f at) own (inr (inr one)) =
+    inl (named_in operation (files_of a a a) n _ world f at own one)
+one_fault operation n a world sort.RunsSpent own is = tt
 
 pub is_operation : (n number : ℕ) (step : Step) (sweeping : Sweeping) → sweeping_of step ≡ Some sweeping → IsOperation n number step sweeping
 is_operation n number (Const value) sweeping none = cc
@@ -231,7 +254,7 @@ is_operation n number (Pair op left right) sweeping some =
         third = first_below number right [] (more_below number left (right ∷ []) h);
       };
       within = λ h. tt;
-      fault = two_faults n left right;
+      fault = λ world e. two_faults (operations.Operator op) n left right world e tt;
       reads_is = refl;
       nodes = λ r. omega arith;
     })
@@ -249,7 +272,7 @@ is_operation n number (Ite test if_one if_zero) sweeping some =
         third = first_below number if_zero [] (more_below number if_one (if_zero ∷ []) (more_below number test (if_one ∷ if_zero ∷ []) h));
       };
       within = λ h. tt;
-      fault = three_faults n test if_one if_zero;
+      fault = λ world e. three_faults operations.Choice n test if_one if_zero world e tt;
       reads_is = refl;
       nodes = λ r. omega arith;
     })
@@ -267,7 +290,7 @@ is_operation n number (Quantify kind of level) sweeping some =
         third = first_below number of [] h;
       };
       within = λ h. first_below n level [] h;
-      fault = one_fault n of;
+      fault = λ world e. one_fault (operations.Quantifier kind level) n of world e refl;
       reads_is = refl;
       nodes = λ r. omega arith;
     })
@@ -285,7 +308,7 @@ is_operation n number (Restrict of level value) sweeping some =
         third = first_below number of [] h;
       };
       within = λ h. first_below n level [] h;
-      fault = one_fault n of;
+      fault = λ world e. one_fault (operations.Restriction level value) n of world e tt;
       reads_is = refl;
       nodes = λ r. omega arith;
     })

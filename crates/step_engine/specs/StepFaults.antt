@@ -16,7 +16,7 @@ use Rattle.catalogue.specs.Files.{catalogue}
 use Rattle.catalogue.specs.Entries.{IsEntryOf}
 use Rattle.step_work.specs.Tuples.{joins, sweeps}
 use Rattle.step_sweeps.specs.Damage.{IsDamagedBy}
-pub use Rattle.step_sweeps.specs.Damage.{MissesNone, MissesNamed, MissesAsked}
+pub use Rattle.step_sweeps.specs.Damage.{MissesNone, MissesNamed}
 use Rattle.sound_image.specs.Files.{node_file, checkpoint_gate}
 
 -- the entry of step k is damaged where no entry of that step and of that kind stands whole at its place
@@ -41,7 +41,7 @@ IsReadingFault Misses n operands world sort.RunsSpent = ⊥
 -- the step has no part number left
 abbrev pub IsMakingFault : ℕ → List ℕ → World → SortFault → Type 0
 IsMakingFault n operands world sort.Shelf = Unit
-IsMakingFault n operands world (sort.Damaged f at) = IsDamagedAmong MissesAsked n operands world f at
+IsMakingFault n operands world (sort.Damaged f at) = IsDamagedAmong MissesNamed n operands world f at
 IsMakingFault n operands world sort.RunsSpent = Unit
 
 -- a size finds the entry of its diagram damaged, and where nothing is read a call of the folder failed
