@@ -5,6 +5,7 @@ ghost use Rattle.step_cases.specs.declared.steps.TheConstants.{LARGE_ROOM, LEAST
 
 use crate::copies::{complement_calls, is_unswept};
 use crate::failing::NEITHER;
+use crate::judged::is_damaged_at;
 use crate::steps::{EMPTY, LARGE_ROOM, LEAST_ROOM, ONE, begun, is_made};
 use case_tables::{FIRST, Random, bench_of, operator, product_of, put_bytes};
 use rec_words::{Ptr, Rec};
@@ -118,7 +119,8 @@ fn is_damaged(
     let bytes = bytes_of(alloc, words)?;
     put_bytes(bench, FIRST, bytes.as_slice())?;
     Ok(match complement(n, room, bench) {
-        Err(SortFault::Damaged { file, at }) => file == FIRST && at <= bytes.len() as u64,
+        Err(SortFault::Damaged { file, at }) => file == FIRST
+            && is_damaged_at(n, bytes.as_slice(), at),
         _ => false,
     })
 }

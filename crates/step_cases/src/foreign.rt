@@ -3,6 +3,7 @@ ghost use Rattle.std.specs.Prelude.{◌≤◌, length};
 ghost use Rattle.step_cases.specs.declared.steps.TheConstants.{LEAST_ROOM};
 
 use crate::failing::{Asked, CASES, FEWEST, answer_of, operands_of, operation_of};
+use crate::judged::is_damaged_at;
 use crate::steps::{EMPTY, LEAST_ROOM, begun};
 use crate::triples::triple;
 use case_tables::{FIRST, bench_of, put_bytes};
@@ -31,14 +32,14 @@ fn fault_of(case: u32, room: &mut [Rec], bench: &mut Bench) -> Option<SortFault>
     answer_of(asked, FEWEST, room, bench).err()
 }
 
-// A step over a first file of these bytes ends, or says where that file is damaged.
+// A step over a first file of these bytes ends, or says where that file is damaged, which it is.
 fn ends_or_tells(case: u32, bytes: &[u8], room: &mut [Rec], bench: &mut Bench) -> Result<bool, Fail>
     requires enough { LEAST_ROOM ≤ length room.old }
 {
     put_bytes(bench, FIRST, bytes)?;
     Ok(match fault_of(case, room, bench) {
         None => true,
-        Some(SortFault::Damaged { file, at }) => file == FIRST && at <= bytes.len() as u64,
+        Some(SortFault::Damaged { file, at }) => file == FIRST && is_damaged_at(FEWEST, bytes, at),
         Some(_) => false,
     })
 }

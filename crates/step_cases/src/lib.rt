@@ -14,6 +14,8 @@ mod failing;
 #[cfg(test)]
 mod foreign;
 #[cfg(test)]
+mod judged;
+#[cfg(test)]
 mod products;
 #[cfg(test)]
 mod reductions;
