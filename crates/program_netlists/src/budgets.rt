@@ -1,7 +1,7 @@
 // The words of a run: budgets, and words that have no reading.
 use crate::case::{Case, all_go};
 use case_runs::{Act, FIRST, ONE_TEXT, ONE_VARIABLE, RUN, SECOND_OF_THREE, USAGE, first_fault};
-use file_numbers::JOB;
+use file_numbers::{JOB, JOB_GATE};
 use shelf_memory::Choice;
 use std::alloc::Global;
 use std::test::Fail;
@@ -157,7 +157,7 @@ fn says_the_usage_to_words_without_a_reading(rt: HostRuntime) -> Result<(), Fail
 
 /// Runs behind that of the one variable in the usual room. The script begins at byte 20 of a job, and the budget of the
 /// run that stored it is at bytes 8 to 11, where a run with another one leaves it.
-const OTHERS: [Case; 4] = [
+const OTHERS: [Case; 6] = [
     (
         "the same words",
         &[
@@ -189,6 +189,30 @@ const OTHERS: [Case; 4] = [
             Act::Put("script", ONE_VARIABLE),
             Act::Run(&LEAST, 0, b"resume 1 of 1\ndone\n"),
             Act::Bytes(JOB, USUAL_JOB),
+        ],
+    ),
+    (
+        "another budget where the job was stored, but nothing said",
+        &[
+            Act::Put("script", ONE_VARIABLE),
+            Act::FailWhen(JOB_GATE, 1),
+            Act::Run(&RUN, 7, b""),
+            Act::Stop(Choice::Present),
+            Act::Put("script", ONE_VARIABLE),
+            Act::Run(&LEAST, 0, b"resume 0 of 1\n2: nodes 1\ndone\n"),
+            Act::Bytes(JOB, USUAL_JOB),
+        ],
+    ),
+    (
+        "another budget where the job wasn't stored",
+        &[
+            Act::Put("script", ONE_VARIABLE),
+            Act::FailWhen(JOB_GATE, 1),
+            Act::Run(&RUN, 7, b""),
+            Act::Stop(Choice::Firm),
+            Act::Put("script", ONE_VARIABLE),
+            Act::Run(&LEAST, 0, ONE_TEXT),
+            Act::Bytes(JOB, LEAST_JOB),
         ],
     ),
     (
