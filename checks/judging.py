@@ -7,6 +7,9 @@ from formats import (
     steps_counted, stored_job, sweep_of, without_budget,
 )
 
+# How many steps behind those that it comes to a run may make node files for, which stay empty.
+AHEAD = 64
+
 
 class Judge:
     """Judges a run by the folder that it found, the one that it left, and how it ended.
@@ -129,6 +132,8 @@ class Judge:
             if old == new and (name in self.left) == (name in self.found):
                 continue
             number = number_of(name)
+            if name not in self.found and number and self.is_ahead(*number, new):
+                continue
             if name not in self.left or not (number and self.may_change(*number, old or b"", new or b"")):
                 self.fault(f"{name} was {'changed' if name in self.found else 'made'}")
         job = self.found.get(JOB) if self.is_stored else self.job.bytes
@@ -136,6 +141,10 @@ class Judge:
             self.fault("the job isn't stored, or fewer steps are counted")
         for step in range(self.counted, self.after):
             self.judge_step(step)
+
+    def is_ahead(self, step, part, new):
+        """Whether a file that was made is an empty node file, as a run makes them ahead of their steps."""
+        return part == NODES and not new and self.counted < step <= self.after + AHEAD
 
     def may_change(self, step, part, old, new):
         """Whether a run may change a file so that ended behind its banner."""

@@ -53,7 +53,7 @@ look_at_folder() {
     text=$(ls -lnd -- "$place" "$place/s4294967295p3" "$place/s${step}p"* 2>/dev/null | awk \
         -v step="$step" -v total="$total" -v time="$(since "$began")" '
         function length_of(part, name,    unit, many) {
-            if (!(part in bytes)) return ""
+            if (!bytes[part]) return ""
             many = bytes[part]
             for (unit = 1; many >= 9999.5 && unit < 5; unit++) many /= 1000
             return sprintf(", %s %.0f %s", name, many, units[unit])

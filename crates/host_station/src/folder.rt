@@ -5,8 +5,8 @@ use crate::handle::{Handle, are_one};
 use crate::handles::Handles;
 use crate::known::Known;
 use file_numbers::{
-    CHECKPOINT_PART, ENDS_PART, FIRST_RUN_PART, INNER_PART, JOB_GATE, checkpoint_file,
-    checkpoint_gate, ends_file, node_file,
+    CHECKPOINT_PART, ENDS_PART, FIRST_RUN_PART, INNER_PART, JOB_GATE, JOB_STEP, NODES_PART,
+    checkpoint_file, checkpoint_gate, ends_file, node_file,
 };
 use shelf_model::{FileNo, LONGEST};
 use std::alloc::Global;
@@ -18,6 +18,9 @@ use std::{fs, io};
 
 /// How many runs of a step are made at once: their names take one sync of the folder.
 const RUNS_AT_ONCE: u64 = 8;
+
+/// The node files of at most so many steps are made ahead.
+const MOST_AHEAD: u32 = 64;
 
 /// A real folder, whose file `(step, part)` is `sSTEPpPART`. A file that isn't there is empty, and
 /// nothing but an append makes one. Only regular files are files of the folder.
@@ -245,9 +248,9 @@ impl<F: FileExt + OpenFile + Drop> Folder<F> {
 
     /// Makes a file that isn't there, and answers the place of its handle.
     ///
-    /// With a step's arcs the files are made that it writes after them, with a checkpoint its gate, and with a run the
-    /// step's checkpoints and the next runs, so that one sync of the folder covers all their names. They are empty, as
-    /// those are that aren't there.
+    /// With a step's arcs the files are made that it writes after them, with arcs and with a node file the node files of
+    /// later steps, with a checkpoint its gate, and with a run the step's checkpoints and the next runs, so that one sync
+    /// of the folder covers all their names. They are empty, as those are that aren't there.
     fn make<R: Files<File = F>>(&mut self, rt: &R, f: FileNo) -> io::Result<usize>
         ensures { IfOk result (λ i. i < vec_len self.new.handles.all) }
     {
@@ -257,6 +260,9 @@ impl<F: FileExt + OpenFile + Drop> Folder<F> {
         if f.part == INNER_PART || f.part == ENDS_PART {
             self.make_early(rt, node_file(f.step))?;
         }
+        if f.part == NODES_PART || f.part == INNER_PART || f.part == ENDS_PART {
+            self.make_nodes_ahead(rt, f.step);
+        }
         if f.part == CHECKPOINT_PART || f.part >= FIRST_RUN_PART {
             self.make_early(rt, checkpoint_gate(f.step))?;
         }
@@ -265,6 +271,24 @@ impl<F: FileExt + OpenFile + Drop> Folder<F> {
             self.make_runs_early(rt, f)?;
         }
         self.make_alone(rt, f)
+    }
+
+    /// Makes the node files of some steps behind that one, those that are known to be absent: of as many steps as there
+    /// are before it, and at most 64, so that a small job leaves few of them empty, and a large one mostly waits for no
+    /// sync of the folder. Where one can't be made that is left to its step, with those behind it.
+    fn make_nodes_ahead<R: Files<File = F>>(&mut self, rt: &R, step: u32) {
+        let behind = step.saturating_add(1);
+        let end = behind.saturating_add(step.min(MOST_AHEAD)).min(JOB_STEP);
+        for later in behind..end {
+            let f = node_file(later);
+            if self.known.is_absent(f) {
+                let Ok(i) = self.make_alone(rt, f) else {
+                    return;
+                };
+                // Until it is used it is given up before others.
+                self.handles.all[i].used = 0;
+            }
+        }
     }
 
     /// Makes the runs of a step behind that one.

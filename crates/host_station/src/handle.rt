@@ -20,7 +20,7 @@ pub(crate) struct Handle<F> {
     pub(crate) is_changed: bool,
     /// Whether it was synced and stands as its last sync left it, its length among that.
     is_synced: bool,
-    /// The call that used it last, or 0 where it was cut to nothing since.
+    /// The call that used it last, or 0 where it was cut to nothing since, or none did.
     pub(crate) used: u64,
 }
 

@@ -1,7 +1,7 @@
 //! Which files of a folder are known to be absent.
 ghost use Rattle.std.specs.Prelude.{◌<◌};
 
-use file_numbers::JOB_STEP;
+use file_numbers::{JOB_STEP, NODES_PART};
 use shelf_model::FileNo;
 use std::io::Read;
 use std::str;
@@ -12,14 +12,15 @@ const PARTS: u64 = 64;
 /// A listing takes at most so many reads.
 const MOST_READS: u32 = u32::MAX;
 
-/// What is known of the files of steps: no step behind this one has a file. Of its own first 64 parts there are those
-/// alone that have their bit, and of the others none from the end on. Of other files it isn't known whether they are
-/// there.
+/// What is known of the files of steps. No step from `nodes` on has a node file, and none behind `step` has another
+/// file. Of the other files of that step there are, of its first 64 parts, those alone that have their bit, and none
+/// from the end on. Of what is left it isn't known whether it is there.
 ///
 /// It grows with what is seen and made. It isn't changed where a file is let go, so that a file that was
 /// made is never taken for absent.
 #[derive(Clone, Copy)]
 pub(crate) struct Known {
+    nodes: u32,
     step: u32,
     parts: u64,
     end: u64,
@@ -29,6 +30,7 @@ impl Known {
     /// Nothing is known.
     pub(crate) fn nothing() -> Known {
         Known {
+            nodes: u32::MAX,
             step: u32::MAX,
             parts: u64::MAX,
             end: u64::MAX,
@@ -39,6 +41,7 @@ impl Known {
     /// is nothing.
     pub(crate) fn of_listing<D: Read>(listing: &mut D) -> Known {
         let mut known = Known {
+            nodes: 0,
             step: 0,
             parts: 0,
             end: 0,
@@ -68,6 +71,10 @@ impl Known {
         if f.step == JOB_STEP {
             return;
         }
+        if f.part == NODES_PART {
+            self.nodes = self.nodes.max(f.step.saturating_add(1));
+            return;
+        }
         if f.step > self.step {
             self.step = f.step;
             self.parts = 0;
@@ -84,11 +91,14 @@ impl Known {
 
     /// Whether a file is sure not to be there. The files beside the steps' are asked for.
     pub(crate) fn is_absent(&self, f: FileNo) -> bool {
-        if f.step == JOB_STEP || f.step < self.step {
+        if f.step == JOB_STEP {
             return false;
         }
-        if f.step > self.step {
-            return true;
+        if f.part == NODES_PART {
+            return f.step >= self.nodes;
+        }
+        if f.step != self.step {
+            return f.step > self.step;
         }
         if f.part < PARTS {
             self.parts >> f.part & 1 == 0

@@ -11,8 +11,8 @@ use std::rt::Files;
 /// The real folder, texts and standard output. It tells nothing of their content: this is the edge
 /// where the outside is trusted.
 ///
-/// Want of memory in a call counts as a fault of that call. A count that has reached its last value
-/// stays there.
+/// Want of memory in a call counts as a fault of that call, but where a file is only made ahead of its step. A count
+/// that has reached its last value stays there.
 #[derive(Drop)]
 pub struct HostStation<R: Files> {
     rt: R,

@@ -54,15 +54,18 @@ fn walk_twice(walk: &Walk<'_>, seed: u64, calls: u64, rt: &HostRuntime) -> Resul
     fs::write(rt, walk.text, bytes.as_slice())?;
     bench.put_text(walk.text, &bytes)?;
     let mut dice = Dice::new(seed);
-    // The steps that are swept lie behind those of the walk. The second round begins with the first one's last.
-    for first in [1000u32, 1004] {
+    // The steps that are swept lie behind those of the walk, and those that are copied behind these. The second round
+    // sweeps the first one's last step again.
+    for (swept, copied) in [(1000u32, 2000u32), (1004, 3000)] {
         let mut real = HostStation::new(rt, rt.alloc());
         if let Some(call) = walk.go(calls, &mut dice, &mut real, &mut bench)? {
             println!(rt; "call {call} isn't answered as in memory")?;
             return Ok(false);
         }
-        if !walk.sweep(first, &mut dice, &mut real, &mut bench)? {
-            println!(rt; "the steps from {first} on aren't answered as in memory")?;
+        if !walk.sweep(swept, &mut dice, &mut real, &mut bench)?
+            || !walk.copy(copied, &mut dice, &mut real, &mut bench)?
+        {
+            println!(rt; "the steps from {swept} or {copied} on aren't answered as in memory")?;
             return Ok(false);
         }
         println!(rt; "{calls} calls as in memory")?;

@@ -14,6 +14,9 @@ pub(crate) const TEXT_LEN: usize = 5000;
 /// So many steps are written as one that sweeps does, at a time.
 const SWEPT: u32 = 5;
 
+/// So many pairs of steps are written as copies are, at a time.
+const COPIED: u32 = 4;
+
 /// What a walk goes over.
 #[derive(Drop)]
 pub(crate) struct Walk<'w> {
@@ -78,6 +81,35 @@ impl<'w> Walk<'w> {
         Ok(true)
     }
 
+    /// Writes the node files of some steps, which write no other, as copies do. Two are written before either is
+    /// synced, and the later one is synced first. Answers whether all was answered alike.
+    pub(crate) fn copy(
+        &self,
+        first: u32,
+        dice: &mut Dice,
+        real: &mut Real<'_>,
+        bench: &mut Bench,
+    ) -> Result<bool, Fail> {
+        for k in 0..COPIED {
+            let step = first.saturating_add(2 * k);
+            let one = FileNo { step, part: 0 };
+            let other = FileNo {
+                step: step.saturating_add(1),
+                part: 0,
+            };
+            let is_alike = put_some(one, dice, real, bench)
+                && put_some(other, dice, real, bench)
+                && self.sync(other, real, bench)?
+                && self.sync(one, real, bench)?
+                && pair::whole(one, real, bench)
+                && pair::whole(other, real, bench);
+            if !is_alike {
+                return Ok(false);
+            }
+        }
+        Ok(true)
+    }
+
     // Writes a file anew, syncs it and reads it.
     fn write(
         &self,
@@ -86,15 +118,12 @@ impl<'w> Walk<'w> {
         real: &mut Real<'_>,
         bench: &mut Bench,
     ) -> Result<bool, Fail> {
-        if !pair::cut(f, 0, real, bench) || !put_some(f, dice, real, bench) {
-            return Ok(false);
-        }
-        let is_synced = if self.marks {
-            self.sync_marked(f, real, bench)?
-        } else {
-            pair::sync(f, real, bench)
-        };
-        Ok(is_synced && pair::whole(f, real, bench))
+        Ok(
+            pair::cut(f, 0, real, bench)
+                && put_some(f, dice, real, bench)
+                && self.sync(f, real, bench)?
+                && pair::whole(f, real, bench),
+        )
     }
 
     // Makes one call, and answers whether both answered alike.
@@ -107,8 +136,7 @@ impl<'w> Walk<'w> {
             35..=64 => Ok(pair::read_at(f, place, dice.below(3000) as usize, real, bench)),
             65..=72 => Ok(pair::len(f, real, bench)),
             73..=80 => Ok(pair::cut(f, place, real, bench)),
-            81..=90 if self.marks => self.sync_marked(f, real, bench),
-            81..=90 => Ok(pair::sync(f, real, bench)),
+            81..=90 => self.sync(f, real, bench),
             91 => Ok(pair::enter(self.folder, real, bench)),
             92..=95 => {
                 let at = place_in(TEXT_LEN as u64, dice);
@@ -119,8 +147,11 @@ impl<'w> Walk<'w> {
         }
     }
 
-    // Syncs a file between two lines that are said.
-    fn sync_marked(&self, f: FileNo, real: &mut Real<'_>, bench: &mut Bench) -> Result<bool, Fail> {
+    // Syncs a file, between two lines that are said where marks are wanted.
+    fn sync(&self, f: FileNo, real: &mut Real<'_>, bench: &mut Bench) -> Result<bool, Fail> {
+        if !self.marks {
+            return Ok(pair::sync(f, real, bench));
+        }
         let step = f.step;
         let part = f.part;
         let line = format!(in self.alloc; "sync s{step}p{part}\n")?;
