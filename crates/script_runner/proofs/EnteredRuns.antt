@@ -174,6 +174,7 @@ earlier job lines status start old mid new stay run = record {
   says = run.says;
   all = run.all;
   emptied = run.emptied;
+  emptied_last = run.emptied_last;
   other = λ other.
       let refuses = run.other other in
       record {
@@ -239,6 +240,7 @@ nothing_ran job lines w = record {
   says = λ x. absurd (omega (arith, x));
   all = λ x. absurd (omega (arith, x));
   emptied = λ x. absurd (omega (arith, x));
+  emptied_last = λ sound x. absurd (omega (arith, x));
   other = λ other. stood job.bytes w w other (stands w (IsStill (now w)) (record { said_is = refl; images = λ image is_image. is_image }));
   only_other = λ x. absurd (omega (arith, x));
   damaged = λ x. absurd (omega (arith, x));
@@ -261,6 +263,7 @@ ran_from job lines finish old new quiet run = record {
   says = λ zero. run.says (was_done finish zero);
   all = λ zero. run.all (was_done finish zero);
   emptied = λ zero. run.emptied (was_done finish zero);
+  emptied_last = λ sound zero. run.emptied_last sound (was_done finish zero);
   other = λ other. elim (run.refuses_other other).1 [
     | inl named ↦ absurd (subst IsQuiet named.1 quiet)
     | inr fault ↦ subst (λ f. RefusesOther job.bytes (status_for f) (now old) old new) (sym fault) (stood job.bytes old new other (run.refuses_other other).0)
@@ -360,6 +363,7 @@ refused_other job lines at status old mid new which run says whole = record {
   says = λ zero. absurd (elim which [ inl x ↦ omega (arith, x, zero) | inr x ↦ omega (arith, x, zero) ]);
   all = λ zero. absurd (elim which [ inl x ↦ omega (arith, x, zero) | inr x ↦ omega (arith, x, zero) ]);
   emptied = λ zero. absurd (elim which [ inl x ↦ omega (arith, x, zero) | inr x ↦ omega (arith, x, zero) ]);
+  emptied_last = λ sound zero. absurd (elim which [ inl x ↦ omega (arith, x, zero) | inr x ↦ omega (arith, x, zero) ]);
   other = λ differs. record {
     at = at;
     place = has;
@@ -401,6 +405,7 @@ refused_damage job lines f at status old mid new which run says whole = record {
   says = λ zero. absurd (elim which [ inl x ↦ omega (arith, x, zero) | inr x ↦ omega (arith, x, zero) ]);
   all = λ zero. absurd (elim which [ inl x ↦ omega (arith, x, zero) | inr x ↦ omega (arith, x, zero) ]);
   emptied = λ zero. absurd (elim which [ inl x ↦ omega (arith, x, zero) | inr x ↦ omega (arith, x, zero) ]);
+  emptied_last = λ sound zero. absurd (elim which [ inl x ↦ omega (arith, x, zero) | inr x ↦ omega (arith, x, zero) ]);
   other = λ differs. absurd (not_other (run.refuses_other differs).1);
   only_other = λ five. absurd (elim which [ inl x ↦ omega (arith, x, five) | inr x ↦ omega (arith, x, five) ]);
   damaged = λ ten. record {
@@ -455,6 +460,7 @@ stopped_spent job lines step status old mid new which run says whole = record {
   says = λ zero. absurd (not_zero zero);
   all = λ zero. absurd (not_zero zero);
   emptied = λ zero. absurd (not_zero zero);
+  emptied_last = λ sound zero. absurd (not_zero zero);
   other = λ differs. absurd (not_other (run.refuses_other differs).1);
   only_other = λ five. absurd (not_five five);
   damaged = λ ten. absurd (not_ten ten);

@@ -10,10 +10,12 @@ pub mod RunSteps
 pub mod StepByStep
 pub mod SayingLines
 pub mod Resting
+pub mod Needed
 pub mod RunAgain
 pub mod Taking
 pub mod StopLaws
 pub mod StepPaying
+pub mod LastTidied
 pub mod RunPaying
 pub mod Paying
 pub mod Beginning

@@ -1,12 +1,12 @@
 -- What pays for going on with a step of a run: what did at first, for the first step that wasn't committed then, and
 -- nothing for those behind it.
-use Rattle.std.proofs.Common.{◌≡◌, ◌∙◌, ℕ, ◌+◌, ◌-◌, ◌*◌, ◌<◌, ◌≤◌, Bool, true, false, cond, nat_lt, List, [], ◌∷◌, length, refl, sym, ap, ap₂, subst, inl, inr, arith}
+use Rattle.std.proofs.Common.{◌≡◌, ◌∙◌, ℕ, ◌+◌, ◌-◌, ◌*◌, ◌<◌, ◌≤◌, Bool, true, false, cond, nat_lt, List, [], ◌∷◌, length, take, refl, sym, ap, ap₂, subst, inl, inr, arith}
 use Rattle.std.specs.Prelude.{IsTrue, Some}
 use Rattle.std.specs.List.{list_all, sum_by}
-use Rattle.std.proofs.lemmas.Bool.{cases_lt, and_parts, ltb-true, lt-ltb, le-ltb}
+use Rattle.std.proofs.lemmas.Bool.{cases_lt, and_parts, lt-ltb, le-ltb}
 use Rattle.std.proofs.lemmas.List.Sums.{sum_by-cons}
 use Rattle.bool_tables.specs.declared.steps.Step.{Step}
-use Rattle.bool_tables.specs.Plans.{IsWellFormed, operands}
+use Rattle.bool_tables.specs.Plans.{IsWellFormed, is_live, operands}
 use Rattle.shelf_model.specs.declared.file_no.FileNo.{FileNo}
 use Rattle.shelf_model.specs.File.{File}
 use Rattle.shelf_model.specs.Folder.{Folder, Image, file_in, bytes_in, AreFiles}
@@ -24,9 +24,12 @@ use Rattle.sound_image.specs.Jobs.{Job, step_at}
 use Rattle.sound_image.specs.Holds.{AreSound}
 use Rattle.sound_image.proofs.AttachLaws.{standing, none_behind_first}
 use Rattle.step_engine.specs.Running.{nodes_read, PaysRest}
-use Rattle.step_engine.proofs.PlanLaws.{may_run}
+use Rattle.sound_image.proofs.Live.{live_below}
+use Rattle.step_engine.proofs.PlanLaws.{operands_live, follows_at}
 use Rattle.script_runner.specs.Calls.{IsGated, PaysStep, PaysFirst}
-use Rattle.script_runner.specs.StepRuns.{KeepsDiagrams, KeepsLater}
+use Rattle.script_runner.specs.StepRuns.{KeepsLater}
+use Rattle.script_runner.proofs.RunSteps.{KeepsUndropped}
+use Rattle.script_runner.proofs.SweepDamage.{live_not_dropped}
 
 -- what remains of what pays for going on, with so many steps committed where so many were at first
 pub unpaid : ℕ → ℕ → ℕ → ℕ
@@ -64,27 +67,27 @@ no_checkpoint : (step : Step) (number : ℕ) (r : FileNo → List ℕ) (rest : �
 no_checkpoint step number r rest empty c tells = absurd (none_told number r empty c tells)
 
 -- the same is paid where the same is read of the checkpoints and of the operands
-nodes_same : (xs : List ℕ) (bound : ℕ) (old new : FileNo → List ℕ) → IsTrue (list_all (λ x. nat_lt x bound) xs)
-    → ((k : ℕ) → k < bound → new (node_file k) ≡ old (node_file k)) → sum_by (λ k. count_of (new (node_file k))) xs ≡ sum_by (λ k. count_of (old (node_file k))) xs
-nodes_same [] bound old new below same = refl
-nodes_same (x ∷ xs) bound old new below same =
-    let parts = and_parts (nat_lt x bound) (list_all (λ y. nat_lt y bound) xs) below in
+nodes_same : (test : ℕ → Bool) (xs : List ℕ) (old new : FileNo → List ℕ) → IsTrue (list_all test xs)
+    → ((k : ℕ) → IsTrue (test k) → new (node_file k) ≡ old (node_file k)) → sum_by (λ k. count_of (new (node_file k))) xs ≡ sum_by (λ k. count_of (old (node_file k))) xs
+nodes_same test [] old new each same = refl
+nodes_same test (x ∷ xs) old new each same =
+    let parts = and_parts (test x) (list_all test xs) each in
     sum_by-cons (λ k. count_of (new (node_file k))) x xs
-    ∙ ap₂ (λ a b. a + b) (ap count_of (same x (ltb-true x bound parts.0))) (nodes_same xs bound old new parts.1 same)
+    ∙ ap₂ (λ a b. a + b) (ap count_of (same x parts.0)) (nodes_same test xs old new parts.1 same)
     ∙ sym (sum_by-cons (λ k. count_of (old (node_file k))) x xs)
 
-pays_still : (step : Step) (number rest : ℕ) (old new : FileNo → List ℕ) → IsTrue (list_all (λ x. nat_lt x number) (operands step))
+pays_still : (step : Step) (number rest : ℕ) (test : ℕ → Bool) (old new : FileNo → List ℕ) → IsTrue (list_all test (operands step))
     → new (checkpoint_gate number) ≡ old (checkpoint_gate number) → new (checkpoint_file number) ≡ old (checkpoint_file number)
-    → ((k : ℕ) → k < number → new (node_file k) ≡ old (node_file k)) → PaysRest step number old rest → PaysRest step number new rest
-pays_still step number rest old new below gate points nodes pays c tells =
+    → ((k : ℕ) → IsTrue (test k) → new (node_file k) ≡ old (node_file k)) → PaysRest step number old rest → PaysRest step number new rest
+pays_still step number rest test old new each gate points nodes pays c tells =
     let same : last_gated number new ≡ last_gated number old = λ i. last_of (length (gate i)) (points i) in
-    let read : nodes_read step new ≡ nodes_read step old = ap (λ n. 3 * n) (nodes_same (operands step) number old new below nodes) in
+    let read : nodes_read step new ≡ nodes_read step old = ap (λ n. 3 * n) (nodes_same test (operands step) old new each nodes) in
     subst (λ n. rest_calls (Some c) n + 3890 ≤ rest) (sym read)
     (pays c (subst (λ found. Tells number found (Some c)) same tells))
 
 -- so it is at each step of a run in a folder that was sound at first
 pub pays_now : (job : Job) (step rest : ℕ) (old new : Folder) → IsWellFormed job.n job.text job.steps → AreFiles old → AreSound job old
-    → count_in (present old) ≤ step → step < length job.steps → KeepsDiagrams job.steps (count_in (present old)) step old new → KeepsLater step old new
+    → count_in (present old) ≤ step → step < length job.steps → KeepsUndropped job.steps (count_in (present old)) step old new → KeepsLater step old new
     → PaysFirst job old rest → PaysStep job step new (unpaid (count_in (present old)) step rest)
 unfolding unpaid
 pays_now job step rest old new plan files sound reached within keeps later pays = elim (cases_lt (count_in (present old)) step) [
@@ -94,10 +97,12 @@ pays_now job step rest old new plan files sound reached within keeps later pays 
   | inr first ↦
       let here : step ≡ count_in (present old) = omega (arith, reached, first) in
       let still : PaysStep job step new rest =
-      pays_still (step_at job step).step step (rest - 1606) (present old) (present new)
-      (may_run job.n job.text job.steps step no_step within plan).operands_are
+      pays_still (step_at job step).step step (rest - 1606) (is_live (take step job.steps)) (present old) (present new)
+      (operands_live job.n job.text (take step job.steps) (step_at job step) (follows_at job.n job.text job.steps step no_step within plan))
       (ap (λ (x : File). x.bytes) (of_step (checkpoint_gate step) refl)) (ap (λ (x : File). x.bytes) (of_step (checkpoint_file step) refl))
-      (λ k below. ap (λ (x : File). x.bytes) (keeps k (omega (arith, below, here)) (λ j from until. absurd (omega (arith, from, until, here)))))
+      (λ k live. ap (λ (x : File). x.bytes) (keeps k
+      (let below : k < step = live_below job.steps step k live in omega (arith, below, here))
+      (λ j from until. live_not_dropped job.steps step k j until (omega (arith, within)) live)))
       (subst (λ k. PaysStep job k old rest) (sym here) (pays (omega (arith, here, within)))) in
       subst (PaysStep job step new) (ap (λ b. cond b 0 rest) (sym (le-ltb (count_in (present old)) step first))) still
 ]

@@ -31,19 +31,22 @@ use Rattle.script_runner.specs.Stops.{run_rest, committed_turns, paid_in, IsRest
 use Rattle.diagram_list.specs.Saying.{IsSaying}
 use Rattle.script_runner.specs.Fetching.{OnlyFetched}
 use Rattle.script_runner.specs.Running.{SaysOnly}
-use Rattle.script_runner.specs.StepRuns.{KeepsDiagrams, KeepsLater}
+use Rattle.script_runner.specs.StepRuns.{KeepsLater}
+use Rattle.script_runner.proofs.RunSteps.{KeepsUndropped}
 use Rattle.script_runner.proofs.Paying.{unpaid, unpaid_few, none_unpaid, unpaid_less, pays_now, gated_now}
+use Rattle.script_runner.specs.Tidied.{TidiedLast}
+use Rattle.script_runner.proofs.LastTidied.{pays_as_before}
 use Rattle.script_runner.proofs.StopLaws.{pays_more, pays_join, pays_still, fetched_old}
 
 -- what is left for going on with the first step that isn't committed, of what pays for going on with the run
 abbrev pub rest_of : ℕ → ℕ
-rest_of rest = rest - (2 ^ 24 + 2 ^ 21 + 2 ^ 12)
+rest_of rest = rest - (2 ^ 24 + 2 ^ 21 + 2 ^ 17)
 
--- the calls that aren't paid for by turns before a step: for attaching the job and the banner, for the lines that were
--- said, and once the first step was taken what paid for going on with it
+-- the calls that aren't paid for by turns before a step: for attaching the job, the banner and tidying up the last
+-- committed step, for the lines that were said, and once the first step was taken what paid for going on with it
 abbrev pub spent_at : ℕ → ℕ → ℕ → ℕ → ℕ → ℕ → ℕ
 spent_at bytes lines left done step rest =
-    10 + pieces bytes + 2 * (lines - left) + (rest_of rest - unpaid done step (rest_of rest))
+    66138 + pieces bytes + 2 * (lines - left) + (rest_of rest - unpaid done step (rest_of rest))
 
 -- a run so far: what a stop costs at each moment of it, and now
 pub record PaysSoFar (job : Job) (paid spent rest : ℕ) (old new : World) : Type 0 where
@@ -54,23 +57,35 @@ pub record PaysSoFar (job : Job) (paid spent rest : ℕ) (old new : World) : Typ
 pub at_more : (job : Job) (paid most more j : ℕ) (r : FileNo → List ℕ) → most ≤ more → PaysAt job paid most j r → PaysAt job paid more j r
 at_more job paid most more j r less at = record { no_fewer = at.no_fewer; few = let few = at.few in omega (arith, few, less) }
 
--- a run of calls in which the files stay
-pub stays_on : (job : Job) (paid spent more rest : ℕ) (old mid new : World) → Throughout mid new (Stays (now mid)) → new.clock ≤ mid.clock + more
-    → spent + more ≤ rest → PaysSoFar job paid spent rest old mid → PaysSoFar job paid (spent + more) rest old new
-stays_on job paid spent more rest old mid new run few within so_far = record {
-  stops = pays_join job paid (old.clock + rest) old mid new run.past so_far.stops
+-- a run of calls in which each image pays for what one of before did
+pub pays_on : (job : Job) (paid spent more rest : ℕ) (old mid new : World) → mid.clock ≤ new.clock
+    → ((k : ℕ) → k ≤ mid.clock → new.moment k ≡ mid.moment k) → new.clock ≤ mid.clock + more → spent + more ≤ rest
+    → ((k : ℕ) → mid.clock ≤ k → k ≤ new.clock → (image : Image) → IsImage (new.moment k).folder image
+    → (before : Image) × IsImage (now mid).folder before × (paid_in job (bytes_in image) ≡ paid_in job (bytes_in before)))
+    → PaysSoFar job paid spent rest old mid → PaysSoFar job paid (spent + more) rest old new
+pays_on job paid spent more rest old mid new later past few within same so_far = record {
+  stops = pays_join job paid (old.clock + rest) old mid new past so_far.stops
       (λ k from to image is_image. at_more job paid (old.clock + (spent + more)) (old.clock + rest) k (bytes_in image) (omega (arith, within))
       (still k from to image is_image));
-  here = still new.clock run.later (omega arith);
+  here = still new.clock later (omega arith);
 }
   where
     still : (k : ℕ) → mid.clock ≤ k → k ≤ new.clock → (image : Image) → IsImage (new.moment k).folder image
         → PaysAt job paid (old.clock + (spent + more)) k (bytes_in image)
     still k from to image is_image =
-        let at = so_far.here image (subst (λ folder. IsImage folder image) (run.each k from to) is_image) in
+        let found = same k from to image is_image in
+        let at = so_far.here found.0 found.1 in
         let no_fewer = at.no_fewer in
         let counted = at.few in
-        record { no_fewer = no_fewer; few = omega (arith, no_fewer, counted, few, to) }
+        let as_much = found.2 in
+        record { no_fewer = omega (arith, no_fewer, as_much); few = omega (arith, no_fewer, counted, few, to, as_much) }
+
+-- so it is where the files stay
+pub stays_on : (job : Job) (paid spent more rest : ℕ) (old mid new : World) → Throughout mid new (Stays (now mid)) → new.clock ≤ mid.clock + more
+    → spent + more ≤ rest → PaysSoFar job paid spent rest old mid → PaysSoFar job paid (spent + more) rest old new
+stays_on job paid spent more rest old mid new run few within so_far =
+    pays_on job paid spent more rest old mid new run.later run.past few within
+    (λ k from to image is_image. (image, subst (λ folder. IsImage folder image) (run.each k from to) is_image, refl)) so_far
 
 -- what each image pays for at least, so that what was spent so far is paid for
 abbrev pub paid_now : ℕ → ℕ → World → World → ℕ
@@ -161,7 +176,7 @@ first_paid job rest folder is within c told = let enough = is.goes_on c told in 
 -- so is each step of it
 pub step_paid : (job : Job) (lines paid spent rest step : ℕ) (gated : Bool) (old new : World) → IsWellFormed job.n job.text job.steps → AreFiles (now old).folder
     → IsPaidRun job lines paid rest (now old).folder → count_in (present (now old).folder) ≤ step → step < length job.steps
-    → KeepsDiagrams job.steps (count_in (present (now old).folder)) step (now old).folder (now new).folder
+    → KeepsUndropped job.steps (count_in (present (now old).folder)) step (now old).folder (now new).folder
     → KeepsLater step (now old).folder (now new).folder → Holds job step (now new).folder → IsGated gated step (now old).folder
     → PaysSoFar job paid spent rest old new
     → IsPaidStep job step gated (paid_now paid spent old new) (unpaid (count_in (present (now old).folder)) step (rest_of rest)) (now new).folder
@@ -227,23 +242,40 @@ module _ {S : Type 0} (tells : S → Bool) (world : S → World) (law : (s : S) 
   pub banner_so_far : (given : List ℕ) (old mid new : S) → length given ≡ length job.bytes
       → Told tells old mid (Ran (DuringAttach given (now (world old))) (world old) (world mid)) → IsTrue (tells mid)
       → (world mid).clock ≤ (world old).clock + 9 + pieces (length given) → Ticks (world mid) (world new)
-      → (now (world new)).folder ≡ (now (world mid)).folder → (left step paid rest : ℕ) → IsPaidRun job lines paid rest (now (world old)).folder
-      → PaysSoFar job paid (spent_at (length job.bytes) lines left (count_in (present (now (world old)).folder)) step rest) rest (world old) (world new)
-  banner_so_far given old mid new size run told few ticks same left step paid rest is =
+      → (now (world new)).folder ≡ (now (world mid)).folder → (paid rest : ℕ) → IsPaidRun job lines paid rest (now (world old)).folder
+      → PaysSoFar job paid (9 + pieces (length job.bytes) + 1) rest (world old) (world new)
+  banner_so_far given old mid new size run told few ticks same paid rest is =
       let files = law old (run.before told) in
       let great = rest_is_great job lines paid rest (now (world old)).folder files is in
       let short = is.short in
       let clock = ticks.clock_is in
-      so_more job paid (9 + pieces (length job.bytes) + 1)
-      (spent_at (length job.bytes) lines left (count_in (present (now (world old)).folder)) step rest) rest (world old) (world new) (omega arith)
-      (stays_on job paid (9 + pieces (length job.bytes)) 1 rest (world old) (world mid) (world new) (said_stays (world mid) (world new) ticks same)
+      stays_on job paid (9 + pieces (length job.bytes)) 1 rest (world old) (world mid) (world new) (said_stays (world mid) (world new) ticks same)
       (omega (arith, clock)) (omega (arith, great, short))
       (attached_so_far job given paid (9 + pieces (length job.bytes)) rest (world old) (world mid) files is.sound is.shows (run.did told) (omega (arith, few, size))
-      (omega (arith, great, short))))
+      (omega (arith, great, short)))
+
+  -- and the last committed step was tidied up, or a part of that was done
+  pub tidied_so_far : (plan : IsWellFormed job.n job.text job.steps) (step left : ℕ) (old mid new : S) → IsTrue (tells old) → step ≤ length job.steps
+      → (AreSound job (now (world old)).folder → Holds job step (now (world mid)).folder)
+      → Told tells mid new (Ran (TidiedLast job.steps step (now (world mid))) (world mid) (world new)) → IsTrue (tells new)
+      → (world new).clock ≤ (world mid).clock + 66128 → (paid rest : ℕ) → IsPaidRun job lines paid rest (now (world old)).folder
+      → PaysSoFar job paid (9 + pieces (length job.bytes) + 1) rest (world old) (world mid)
+      → PaysSoFar job paid (spent_at (length job.bytes) lines left (count_in (present (now (world old)).folder)) step rest) rest (world old) (world new)
+  tidied_so_far plan step left old mid new tells_old upto holds tidies told few paid rest is so_far =
+      let great = rest_is_great job lines paid rest (now (world old)).folder (law old tells_old) is in
+      let short = is.short in
+      let ran = tidies.did told in
+      so_more job paid (9 + pieces (length job.bytes) + 1 + 66128)
+      (spent_at (length job.bytes) lines left (count_in (present (now (world old)).folder)) step rest) rest (world old) (world new) (omega arith)
+      (pays_on job paid (9 + pieces (length job.bytes) + 1) 66128 rest (world old) (world mid) (world new) ran.moments.later ran.moments.past
+      few (omega (arith, great, short))
+      (λ k from to image is_image.
+      pays_as_before job plan step upto (now (world mid)) ((world new).moment k) (law mid (tidies.before told)) (holds is.sound).ready
+      (ran.moments.each k from to).holds image is_image) so_far)
 
   module _ (plan : IsWellFormed job.n job.text job.steps) (step left : ℕ) (within : step < length job.steps) (old mid new : S) (tells_old : IsTrue (tells old))
       (reached : count_in (present (now (world old)).folder) ≤ step)
-      (keeps : KeepsDiagrams job.steps (count_in (present (now (world old)).folder)) step (now (world old)).folder (now (world mid)).folder)
+      (keeps : KeepsUndropped job.steps (count_in (present (now (world old)).folder)) step (now (world old)).folder (now (world mid)).folder)
       (later : KeepsLater step (now (world old)).folder (now (world mid)).folder)
       (holds : AreSound job (now (world old)).folder → Holds job step (now (world mid)).folder)
       (gated : Bool) (gates : AreSound job (now (world old)).folder → IsGated gated step (now (world old)).folder)

@@ -41,7 +41,7 @@ use Rattle.script_runner.specs.Said.{whole_lines, acknowledged, said_count, no_l
 use Rattle.diagram_list.specs.Saying.{StaysThere}
 use Rattle.diagram_list.proofs.SayingLaws.{stays_then, stays_on_shelf}
 use Rattle.script_runner.specs.Running.{IsSafe, Begins, AllBegin, WaitsNot, OthersAre, IsRunning, HasSaid, AreEmptied, IsEntryDamage, IsMetDamage, stood_after}
-use Rattle.script_runner.specs.StepRuns.{CountsAbout, IsTaking, HasEntry, HasSteps, HoldsStep, NoneDrops, KeepsDiagrams, KeepsLater, TakesStep}
+use Rattle.script_runner.specs.StepRuns.{CountsAbout, IsTaking, HasEntry, HasSteps, HoldsStep, NoneDrops, KeepsLater, TakesStep}
 use Rattle.script_runner.proofs.LineOrder.{none_before, ended_rises}
 use Rattle.script_runner.proofs.SweepDamage.{fault_passes, live_not_dropped}
 use Rattle.script_runner.proofs.SaidLaws.{whole_lines-append, start_line_is_one, resume_line_is_one, said_below, acknowledged_least}
@@ -86,14 +86,20 @@ pub record Sounds (job : Job) (lines : List LineEnd) (count : ℕ) (since todo :
   pub text_is : text_at job lines old ≡ since ++ todo
   pub holds : Holds job count (now new).folder
 
+-- the file of each diagram that was there at first is as it was, unless one of these steps drops it, or the last one that
+-- was committed at first does, which may be tidied up once more
+abbrev pub KeepsUndropped : List Planned → ℕ → ℕ → Folder → Folder → Type 0
+KeepsUndropped steps done step old new = (k : ℕ) → k < done → NoneDrops steps (done - 1) step k
+    → file_in new (node_file k) ≡ file_in old (node_file k)
+
 -- the catalogue so far: the entries that were there at first stay, as they are sure and as they are read, each step since has its entry,
--- what these steps drop is empty, and the diagrams that were there at first and that they don't drop stay, and so do the files of the steps that remain
+-- what these steps drop is empty, and the diagrams that were there at first and that none drops stay, and so do the files of the steps that remain
 pub record HasMade (steps : List Planned) (done step : ℕ) (old new : Folder) : Type 0 where
   pub kept : (front : List ℕ) → length front ≤ 128 * done → IsKept front (file_in old catalogue) → IsKept front (file_in new catalogue)
   pub reads : take (128 * done) (file_in new catalogue).bytes ≡ take (128 * done) (file_in old catalogue).bytes
   pub made : (k : ℕ) → done ≤ k → k < step → (e : Entry) × HasEntry steps k e (present new)
   pub emptied : AreEmptied steps done step new
-  pub keeps : KeepsDiagrams steps done step old new
+  pub keeps : KeepsUndropped steps done step old new
   pub later : KeepsLater step old new
 
 -- where a run stands between two steps: so many are committed, and these lines remain to be said
@@ -392,7 +398,7 @@ module _ (job : Job) (lines : List LineEnd) (plan : IsPlan job lines) (old : Wor
     }))
       where
         -- the diagram is live as the step begins, so none of the steps before it drops it
-        undropped : (k : ℕ) → f ≡ node_file k → NoneDrops job.steps (done_at old) step k
+        undropped : (k : ℕ) → f ≡ node_file k → NoneDrops job.steps (done_at old - 1) step k
         undropped k is j from until =
             let live = fault_passes (is_live (take swept.step job.steps)) job.n _ (stood_after swept.began new) f place
             swept.swept

@@ -55,7 +55,7 @@ use Rattle.script_runner.specs.Anew.{BeganAnew, LackedPoint, IsFound, MakesStep}
 use Rattle.script_runner.proofs.Paying.{none_told}
 
 -- each image has so many steps
-abbrev AllHave : Job → ℕ → Moment → Type 0
+abbrev pub AllHave : Job → ℕ → Moment → Type 0
 AllHave job count m = (image : Image) → IsImage m.folder image → HasSteps job count (bytes_in image)
 
 -- the job's files are as they were
@@ -84,7 +84,7 @@ pub job_apart : (k : ℕ) (f : FileNo) → k < job_step → f.step ≡ job_step 
 job_apart k f early job_step own = let steps : f.step ≡ k = own in omega (arith, job_step, steps, early)
 
 -- a step that drops a diagram is that drop
-dropping : (gone : ℕ) (s : Step) → IsTrue (drops gone s) → s ≡ Drop gone
+pub dropping : (gone : ℕ) (s : Step) → IsTrue (drops gone s) → s ≡ Drop gone
 dropping gone (Const value) dropped = absurd cc
 dropping gone (Var level) dropped = absurd cc
 dropping gone (Pair op left right) dropped = absurd cc
@@ -103,7 +103,7 @@ dropped_below k gone s dropped earlier =
     only_below k gone (subst (λ x. IsTrue (list_all (λ j. nat_lt j k) (operands x))) (dropping gone s dropped) earlier)
 
 -- a file that is cut behind a step is that of the step or of an earlier one
-cut_file : (s : Step) (k next : ℕ) (f : FileNo) → IsTrue (list_all (λ j. nat_lt j k) (operands s)) → IsCutBy s k next f → f.step ≤ k
+pub cut_file : (s : Step) (k next : ℕ) (f : FileNo) → IsTrue (list_all (λ j. nat_lt j k) (operands s)) → IsCutBy s k next f → f.step ≤ k
 cut_file s k next f earlier (inl (gone, dropped, is)) =
     let below : gone < k = dropped_below k gone s dropped earlier in
     let steps : f.step ≡ gone = ap (λ (q : FileNo). q.step) is in
@@ -119,7 +119,7 @@ counts_about step count folder low high ready image is_image =
     record { stored = has.stored; no_fewer = omega (arith, same, low); no_more = omega (arith, same, high) }
 
 -- a step that has only begun
-taking_first : (steps step : ℕ) (folder : Folder) → IsReady step folder → IsTaking steps step folder folder
+pub taking_first : (steps step : ℕ) (folder : Folder) → IsReady step folder → IsTaking steps step folder folder
 taking_first steps step folder ready = record {
   others = λ f apart. refl;
   counts = counts_about step step folder (omega arith) (omega arith) ready;
@@ -128,7 +128,7 @@ taking_first steps step folder ready = record {
 }
 
 -- the job's files stay while a step is taken
-taking_same : (steps step count : ℕ) (old before after : Folder) → step ≤ count → count ≤ step + 1 → IsReady count before → JobStays before after
+pub taking_same : (steps step count : ℕ) (old before after : Folder) → step ≤ count → count ≤ step + 1 → IsReady count before → JobStays before after
     → OthersAre steps before after → IsTaking steps step old before → IsTaking steps step old after
 taking_same steps step count old before after low high ready same others so_far = record {
   others = λ f apart. others f apart ∙ so_far.others f apart;

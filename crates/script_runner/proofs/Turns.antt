@@ -2,16 +2,17 @@
 use Rattle.std.proofs.Common.{◌≡◌, ◌∙◌, ℕ, ◌+◌, ◌-◌, ◌*◌, ◌/◌, ◌<◌, ◌≤◌, min, Bool, true, false, not, cond, nat_lt, List, [], ◌++◌, length, take, drop, get_or, refl, sym, ap, subst, inl, inr, arith}
 use Rattle.std.specs.Prelude.{IsTrue, Result, Ok, Err, OnOk, if◌then◌else◌}
 use Rattle.std.specs.List.{list_all, sum_by}
+use Rattle.std.proofs.lemmas.Bool.{cases_lt}
 use Rattle.std.proofs.lemmas.List.{append-nil, length-take, length-drop, take_more}
 use Rattle.std.proofs.lemmas.List.Sums.{sum_by-take-le, sum_by_push}
 use Rattle.shelf_model.specs.declared.fault.Failed.{Failed}
 use Rattle.shelf_model.specs.declared.file_no.FileNo.{FileNo}
-use Rattle.shelf_model.specs.Folder.{Image, AreFiles, bytes_in}
+use Rattle.shelf_model.specs.Folder.{Image, AreFiles, file_in, bytes_in}
 use Rattle.shelf_model.specs.World.{Moment, World, now, said}
 use Rattle.shelf_model.specs.Calls.{Told, Said}
-use Rattle.shelf_model.specs.Moments.{Quiet, Ran, OnlyOldImages}
+use Rattle.shelf_model.specs.Moments.{Throughout, Quiet, Ran, Stays, OnlyOldImages}
 use Rattle.shelf_model.proofs.Images.{chosen, standing_image}
-use Rattle.shelf_model.proofs.Runs.{told, told_then, weakens, ran_end}
+use Rattle.shelf_model.proofs.Runs.{told, told_then, weakens, at_end, ran_end}
 use Rattle.catalogue.specs.declared.layout.Entry.{Entry}
 use Rattle.catalogue.specs.declared.standing.Standing.{Standing}
 use Rattle.catalogue.specs.declared.fault.AttachFault.{AttachFault}
@@ -37,9 +38,13 @@ use Rattle.script_runner.specs.Shapes.{IsShape, IsWholeShape}
 use Rattle.script_runner.specs.Running.{HasSaid, HasOtherJob, IsOther, IsDamage, RefusesFolder, IsStop, IsSpentStep, IsStill, StoodStill, MeetsDamage, MeetsSpent, AreEmptied, RunsSteps}
 use Rattle.script_runner.specs.StepRuns.{IsTaking, HoldsStep, TakesStep, IsSayStop, SaysLines}
 use Rattle.script_runner.specs.Calls.{step_calls, IsGated, IsCounted, AreCounted}
+use Rattle.sound_image.specs.Files.{node_file}
+use Rattle.sound_image.proofs.EntryLaws.{entry_stands}
+use Rattle.script_runner.specs.Tidied.{TidiedLast, TidyCosts, EmptiesLast}
+use Rattle.script_runner.proofs.LastTidied.{tidied_at, last_paid}
 use Rattle.script_runner.proofs.LineOrder.{ended_is, ended_most}
 use Rattle.script_runner.proofs.Standing.{IsStanding, IsDamaged, standing_says}
-use Rattle.script_runner.proofs.RunSteps.{done_at, text_at, present_count, IsPlan, Ongoing, AtStep, attaching, since, shape_of, damaged_at_first, met_at_first, same_at, taking, has_taken}
+use Rattle.script_runner.proofs.RunSteps.{done_at, text_at, drop_below, present_count, IsPlan, Ongoing, AtStep, attaching, since, shape_of, damaged_at_first, met_at_first, same_at, taking, has_taken}
 use Rattle.script_runner.proofs.Paying.{unpaid, pays_now, gated_now}
 use Rattle.script_runner.proofs.StepByStep.{begun, says_lines, whole_behind, has_said_lines, ends}
 
@@ -87,6 +92,7 @@ by_stop job lines finish old new run same stop goes_on names spends = record {
   says = λ e. absurd (not_done finish stop e);
   all = λ e. absurd (not_done finish stop e);
   emptied = λ e. absurd (not_done finish stop e);
+  emptied_last = λ sound e. absurd (not_done finish stop e);
   other_job = λ at e. absurd (not_job finish at stop e);
   refuses_other = λ other. absurd (not_other job old same other);
   damaged = names;
@@ -120,8 +126,9 @@ by_saying job lines old new run same =
 to_the_end : (job : Job) (lines : List LineEnd) (old new : World) → Ongoing job lines old new → IsThisJob job old
     → (AreSound job (now old).folder → said new ≡ said old ++ text_at job lines old) → HaveCount (length job.steps) (now new).folder
     → AreEmptied job.steps (done_at old) (length job.steps) (now new).folder
+    → (AreSound job (now old).folder → AreEmptied job.steps (done_at old - 1) (length job.steps) (now new).folder)
     → HasSaid (λ text folder. IsWholeShape job.steps lines (present (now old).folder) (present folder) text) (now old) (now new) → RunsSteps job lines Done old new
-to_the_end job lines old new run same whole all emptied says = record {
+to_the_end job lines old new run same whole all emptied last says = record {
   moments = run.moments;
   stays = run.stays;
   goes_on = λ sound none. none;
@@ -129,6 +136,7 @@ to_the_end job lines old new run same whole all emptied says = record {
   says = λ e. says;
   all = λ e. all;
   emptied = λ e. emptied;
+  emptied_last = λ sound e. last sound;
   other_job = λ at e. cc;
   refuses_other = λ other. absurd (not_other job old same other);
   damaged = λ f at e. cc;
@@ -173,6 +181,7 @@ module _ (job : Job) (lines : List LineEnd) (plan : IsPlan job lines) (given : L
     says = λ e. cc;
     all = λ e. cc;
     emptied = λ e. cc;
+    emptied_last = λ sound e. cc;
     other_job = λ at e. cc;
     refuses_other = λ other. (stands_still given old new other.stored run, inr refl);
     damaged = λ f at e. cc;
@@ -189,6 +198,7 @@ module _ (job : Job) (lines : List LineEnd) (plan : IsPlan job lines) (given : L
     says = λ e. cc;
     all = λ e. cc;
     emptied = λ e. cc;
+    emptied_last = λ sound e. cc;
     other_job = λ place e. let same : at ≡ place = cc in subst (λ k. HasOtherJob job.bytes k (present (now old).folder)) same other;
     refuses_other = λ differs. (stands_still given old new differs.stored run, inl (at, refl));
     damaged = λ f place e. cc;
@@ -214,6 +224,7 @@ module _ (job : Job) (lines : List LineEnd) (plan : IsPlan job lines) (given : L
     says = λ e. cc;
     all = λ e. cc;
     emptied = λ e. cc;
+    emptied_last = λ sound e. cc;
     other_job = λ place e. cc;
     refuses_other = λ differs. absurd (differs.other damage.same);
     damaged = λ g place e.
@@ -324,6 +335,41 @@ module _ {S : Type 0} (tells : S → Bool) (world : S → World) (law : (s : S) 
   all_said : (step : ℕ) (rest : List LineEnd) (a b : World) → IsTrue (rise_from step rest) → (at : AtStep job lines step rest a b) → ended_before step lines ≤ at.place
   all_said step rest a b rise at = ended_most step lines at.place (subst (λ ls. IsTrue (rise_from step ls)) at.rest_is rise)
 
+  -- the last committed step is tidied up once more, or a part of that is done
+  pub tidies_last : (step : ℕ) (rest : List LineEnd) (old s t : S) → IsTrue (rise_from step rest) → Told tells old s (Turn job lines step rest (world old) (world s))
+      → Told tells s t (Ran (TidiedLast job.steps step (now (world s))) (world s) (world t)) → Told tells old t (Turn job lines step rest (world old) (world t))
+  tidies_last step rest old s t rise so_far tidies = record {
+    before = λ tells_t. so_far.before (tidies.before tells_t);
+    did = λ tells_t.
+        let tells_s : IsTrue (tells s) = tidies.before tells_t in
+        let turn = so_far.did tells_s in (
+          tidied_at job lines plan (world old) (law old (so_far.before tells_s)) step rest (world s) (world t) (law s tells_s) turn.0
+              (all_said step rest (world old) (world s) rise turn.0) (tidies.did tells_t),
+          turn.1,
+        );
+  }
+
+  -- a call of the folder failed in it
+  pub stops_tidying : (step : ℕ) (rest : List LineEnd) (old t : S) → Told tells old t (Turn job lines step rest (world old) (world t))
+      → Told tells old t (RunsSteps job lines FolderFault (world old) (world t))
+  stops_tidying step rest old t so_far = told tells old t _ _ so_far (λ _ turn.
+      by_stop job lines FolderFault (world old) (world t) turn.0.run turn.1 tt (λ sound none. none) (λ f at e. cc) (λ k e. cc))
+
+  -- and the calls of the steps that are committed pay for it
+  pub tidying_calls : (step paid : ℕ) (rest : List LineEnd) (old s t : S) → Told tells old s (Turn job lines step rest (world old) (world s)) → IsTrue (tells s)
+      → AreCounted job (now (world old)).folder paid → TidyCosts job.steps step (world s) (world t) → (world t).clock ≤ (world s).clock + calls_before job step
+  tidying_calls step paid rest old s t so_far tells_s counted costs = elim (cases_lt 0 step) [
+    | inl some ↦
+        let turn = so_far.did tells_s in
+        let upto = turn.0.upto in
+        let within : step - 1 < length job.steps = omega (arith, some, upto) in
+        let own = last_paid job plan.well_formed step upto paid (now (world old)).folder (world s) (world t) some counted (λ sound. (turn.0.sound sound).holds) costs in
+        let more = calls_of_one_more job (step - 1) within in
+        let all : step - 1 + 1 ≡ step = omega (arith, some) in
+        subst (λ n. (world t).clock ≤ (world s).clock + calls_before job n) all (omega (arith, own, more))
+    | inr none ↦ let idle = costs.none (omega (arith, none)) in omega (arith, idle)
+  ]
+
   -- a step is taken, or stops the run
   pub stops_step : (step : ℕ) (rest : List LineEnd) (finish : Finish) (old s t : S) → step < length job.steps
       → IsTrue (rise_from step rest) → Told tells old s (Turn job lines step rest (world old) (world s))
@@ -433,8 +479,36 @@ module _ {S : Type 0} (tells : S → Bool) (world : S → World) (law : (s : S) 
       × ((AreSound job (now (world old)).folder → said (world t) ≡ said (world old) ++ text_at job lines (world old)) × HaveCount (length job.steps) (now (world t)).folder
       × AreEmptied job.steps (done_at (world old)) (length job.steps) (now (world t)).folder
       × HasSaid (λ text folder. IsWholeShape job.steps lines (present (now (world old)).folder) (present folder) text) (now (world old)) (now (world t))))
+      → (IsTrue (tells t) → AreSound job (now (world old)).folder → AreEmptied job.steps (done_at (world old) - 1) (length job.steps) (now (world t)).folder)
       → Told tells old t (RunsSteps job lines Done (world old) (world t))
-  is_done old t so_far = told tells old t _ _ so_far (λ _ both. to_the_end job lines (world old) (world t) both.0.0 both.0.1 both.1.0 both.1.1 both.1.2 both.1.3)
+  is_done old t so_far last = record {
+    before = so_far.before;
+    did = λ tells_t.
+        let both = so_far.did tells_t in
+        to_the_end job lines (world old) (world t) both.0.0 both.0.1 both.1.0 both.1.1 both.1.2 (last tells_t) both.1.3;
+  }
+
+  -- behind that what the last committed step dropped is empty
+  pub emptied_at_first : (step : ℕ) (rest : List LineEnd) (old s t : S) → Told tells old s (Turn job lines step rest (world old) (world s)) → IsTrue (tells s)
+      → step ≡ done_at (world old) → EmptiesLast job.steps step (now (world s)).folder (now (world t)).folder → AreSound job (now (world old)).folder
+      → AreEmptied job.steps (done_at (world old) - 1) step (now (world t)).folder
+  emptied_at_first step rest old s t so_far tells_s is empties sound k from until gone drops_it =
+      let holds = ((so_far.did tells_s).0.sound sound).holds in
+      let here : k ≡ step - 1 = omega (arith, from, until, is) in
+      let found = entry_stands job step (step - 1) (now (world s)).folder holds (omega (arith, until)) in
+      (empties (omega (arith, until)) found.0 (record { entry = found.1.entry_is; number = found.1.number_is; bytes = found.2 }) found.1.kind_is).dropped gone
+      (ap (λ i. (get_or job.steps i no_step).step) (sym here) ∙ drops_it)
+
+  -- and behind each step that is taken from there on, and its lines
+  pub emptied_on : (from step : ℕ) (e : Entry) (s t u : World) → step < length job.steps → TakesStep job step (Ok e) s t → Throughout t u (Stays (now t))
+      → AreEmptied job.steps from step (now s).folder → AreEmptied job.steps from (step + 1) (now u).folder
+  emptied_on from step e s t u within takes stays so_far k since until gone drops_it =
+      subst (λ folder. (file_in folder (node_file gone)).bytes ≡ []) (sym (at_end t u (Stays (now t)) stays)) (elim (cases_lt k step) [
+        | inl below ↦
+            let gone_below : gone < k = drop_below job k gone plan.well_formed (omega (arith, below, within)) drops_it in
+            takes.still_empty gone (omega (arith, gone_below, below)) (so_far k since below gone drops_it)
+        | inr beyond ↦ takes.emptied k (omega (arith, beyond)) until gone drops_it
+      ])
 
 module _ {S : Type 0} (tells : S → Bool) (world : S → World) where
   -- the entry of a step that was taken stands at its place

@@ -1,5 +1,5 @@
 -- What a run of a job in a folder leaves, from entering it on.
-use Rattle.std.specs.Prelude.{◌≡◌, ℕ, ◌⊎◌, ◌^◌, ◌<◌, ◌≤◌, List, [], ◌++◌, length}
+use Rattle.std.specs.Prelude.{◌≡◌, ℕ, ◌⊎◌, ◌-◌, ◌^◌, ◌<◌, ◌≤◌, List, [], ◌++◌, length}
 use Rattle.shelf_model.specs.declared.file_no.FileNo.{FileNo}
 use Rattle.shelf_model.specs.World.{Moment, World, now, said}
 use Rattle.shelf_model.specs.Moments.{Throughout, OnlyOldImages}
@@ -118,6 +118,9 @@ pub record RunsFrom (job : Job) (lines : List LineEnd) (status : ℕ) (start : M
   pub all : status ≡ 0 → HaveCount (length job.steps) (now new).folder
   pub emptied : status ≡ 0
       → AreEmptied job.steps (count_in (present start.folder)) (length job.steps) (now new).folder
+  -- where each image was sound at first so is what the last step dropped that was committed then
+  pub emptied_last : AreSound job start.folder → status ≡ 0
+      → AreEmptied job.steps (count_in (present start.folder) - 1) (length job.steps) (now new).folder
   -- a folder that stores another job is refused, and with 5 it is such a one
   pub other : IsOther job.bytes (present start.folder) → RefusesOther job.bytes status start old new
   pub only_other : status ≡ 5 → IsOther job.bytes (present start.folder)

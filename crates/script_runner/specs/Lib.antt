@@ -9,6 +9,7 @@ pub mod StepRuns
 pub mod Calls
 pub mod Begun
 pub mod Stops
+pub mod Tidied
 pub mod Fetching
 pub mod Netlists
 pub mod JobOf

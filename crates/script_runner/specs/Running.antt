@@ -247,6 +247,9 @@ pub record RunsSteps (job : Job) (lines : List LineEnd) (finish : Finish) (old n
   pub all : finish ≡ Done → HaveCount (length job.steps) (now new).folder
   pub emptied : finish ≡ Done
       → AreEmptied job.steps (count_in (present (now old).folder)) (length job.steps) (now new).folder
+  -- where each image was sound at first so is what the last step dropped that was committed then
+  pub emptied_last : AreSound job (now old).folder → finish ≡ Done
+      → AreEmptied job.steps (count_in (present (now old).folder) - 1) (length job.steps) (now new).folder
   -- another job is refused exactly where one is stored, unless a call of the folder failed, and
   -- then nothing was done
   pub other_job : (at : ℕ) → finish ≡ OtherJob at

@@ -21,6 +21,7 @@ mod run;
 mod run_source;
 mod say;
 mod step;
+mod tidy_last;
 
 pub use example_script::gen_script;
 pub use finish::Finish;

@@ -15,6 +15,7 @@ use crate::begin::begin;
 use crate::given_job::Job;
 use crate::say::{count_before, say_lines};
 use crate::step::take_step;
+use crate::tidy_last::tidy_last;
 use bool_tables::Planned;
 use catalogue::AttachFault;
 use rec_words::Rec;
@@ -90,6 +91,9 @@ pub(crate) fn run_job<W: Station>(job: &Job, room: &mut [Rec], station: &mut W) 
     let banner = banner_line(standing.fresh, before as u64, job.lines.len() as u64);
     let Ok(()) = station.say(banner.as_str().as_bytes()) else {
         return Finish::SayFault;
+    };
+    let Ok(()) = tidy_last(job, standing.done, station) else {
+        return Finish::FolderFault;
     };
     let mut rest = job.lines.split_at(before).1;
     let mut gone_on = begun.gone_on;

@@ -4,7 +4,10 @@ use Rattle.std.specs.Prelude.{IsTrue, Ok, Err}
 use Rattle.std.specs.List.{list_all}
 use Rattle.shelf_model.specs.World.{now}
 use Rattle.shelf_model.specs.Calls.{Told}
+use Rattle.shelf_model.specs.Folder.{file_in}
+use Rattle.catalogue.specs.Counts.{present}
 use Rattle.catalogue.proofs.Budget.{length-without_budget}
+use Rattle.sound_image.specs.Files.{node_file}
 use Rattle.sound_image.specs.Jobs.{Job}
 use Rattle.sound_image.proofs.AttachLaws.{none_behind_first}
 use Rattle.script_reader.specs.declared.plan.LineEnd.{LineEnd}
@@ -12,6 +15,7 @@ use Rattle.script_reader.specs.Lines.{rise_from, shows_past}
 use Rattle.script_runner.specs.JobOf.{job_in}
 use Rattle.script_runner.specs.Text.{done_line}
 use Rattle.script_runner.specs.StepRuns.{SaysLines}
+use Rattle.script_runner.proofs.Standing.{IsStanding, standing_says}
 use Rattle.script_runner.proofs.Tests.{rest_passes}
 use Rattle.script_runner.proofs.LineOrder.{rises_earlier, none_left, shown_in_front, front_passes}
 use Rattle.script_runner.proofs.Shown.{below_next}
@@ -19,8 +23,8 @@ use Rattle.script_runner.proofs.RunSteps.{done_at, plan_in}
 use Rattle.script_runner.proofs.Paying.{unpaid, unpaid_few, none_unpaid}
 use Rattle.script_runner.proofs.Beginning.{begun_gated}
 use Rattle.script_runner.proofs.Saying.{told_second}
-use Rattle.script_runner.proofs.Turns.{Turn, not_attached, refuses_job, refuses_damage, says_banner, stopped_saying, stops_step, takes_step, is_ready, made_stands, stops_lines, said_lines, says_done, is_done, is_counted, calls_of_one_more, calls_before_all}
-use Rattle.script_runner.proofs.RunPaying.{PaysSoFar, spent_at, rest_few, attach_stops, banner_so_far, stopped_step, taken_step, lines_said, ends_so}
+use Rattle.script_runner.proofs.Turns.{Turn, not_attached, refuses_job, refuses_damage, says_banner, stopped_saying, tidies_last, stops_tidying, tidying_calls, stops_step, takes_step, is_ready, made_stands, stops_lines, said_lines, says_done, is_done, emptied_at_first, emptied_on, is_counted, calls_of_one_more, calls_before_all}
+use Rattle.script_runner.proofs.RunPaying.{PaysSoFar, spent_at, rest_few, attach_stops, banner_so_far, tidied_so_far, stopped_step, taken_step, lines_said, ends_so}
 use Rattle.script_runner.proofs.run.run_job.Goals as goal
 
 pub returns-in-Err-Shelf-clause-content : goal.returns-in-Err-Shelf-clause-content
@@ -57,38 +61,104 @@ pub loop-step-init : goal.loop-step-init
 loop-step-init g c =
     let job : Job = job_in c.args.job.now in
     let plan = plan_in c.args.job.now in
+    let turn = told_second g.W.Shelf.tells g.W.Shelf.world _ _ _ _ (says_banner g.W.Shelf.tells g.W.Shelf.world (λ s told f. g.met.W.Shelf.files_are s told f) job c.args.job.now.lines.now plan c.args.job.now.bytes.now c.in-Ok.begun.standing c.count_before-before.result c.as_bytes.result.now _ _ _ _ refl
+    c.in-Ok.ensures.content c.in-Ok.ensures.answer c.in-Ok.ensures.ok
+    c.count_before-before.ensures.within c.count_before-before.ensures.front c.count_before-before.ensures.rest
+    (c.as_bytes.ensures.value ∙ c.as_str.ensures.value ∙ c.banner_line-banner.ensures.text) c.in-Ok-say.ensures.content) in
     let attach_faults = c.in-Ok.ensures.faults in
     let say_faults = c.in-Ok-say.ensures.faults in
+    let tidy_faults = c.in-Ok-tidy_last.ensures.faults in
     let rest : c.split_at.result.1.now ≡ drop c.count_before-before.result c.args.job.now.lines.now = c.split_at.ensures.back in
     record {
-      so_far = subst (λ (ls : List LineEnd). Told g.W.Shelf.tells c.args.station.now c.say.new.self (Turn job c.args.job.now.lines.now c.in-Ok.begun.standing.done ls (g.W.Shelf.world c.args.station.now) (g.W.Shelf.world c.say.new.self))) (sym rest)
-          (told_second g.W.Shelf.tells g.W.Shelf.world _ _ _ _ (says_banner g.W.Shelf.tells g.W.Shelf.world (λ s told f. g.met.W.Shelf.files_are s told f) job c.args.job.now.lines.now plan c.args.job.now.bytes.now c.in-Ok.begun.standing c.count_before-before.result c.as_bytes.result.now _ _ _ _ refl
-          c.in-Ok.ensures.content c.in-Ok.ensures.answer c.in-Ok.ensures.ok
-          c.count_before-before.ensures.within c.count_before-before.ensures.front c.count_before-before.ensures.rest
-          (c.as_bytes.ensures.value ∙ c.as_str.ensures.value ∙ c.banner_line-banner.ensures.text) c.in-Ok-say.ensures.content));
+      so_far = subst (λ (ls : List LineEnd). Told g.W.Shelf.tells c.args.station.now c.tidy_last.new.shelf (Turn job c.args.job.now.lines.now c.in-Ok.begun.standing.done ls (g.W.Shelf.world c.args.station.now) (g.W.Shelf.world c.tidy_last.new.shelf))) (sym rest)
+          (tidies_last g.W.Shelf.tells g.W.Shelf.world (λ s told f. g.met.W.Shelf.files_are s told f) job c.args.job.now.lines.now plan c.in-Ok.begun.standing.done
+          (drop c.count_before-before.result c.args.job.now.lines.now) _ _ _ c.count_before-before.ensures.rest turn c.in-Ok-tidy_last.ensures.content);
       calls = λ t paid counted.
+          let told_say = c.in-Ok-tidy_last.ensures.content.before t in
           let few = unpaid_few (done_at (g.W.Shelf.world c.args.station.now)) c.in-Ok.begun.standing.done paid in
-          let clock = (c.in-Ok-say.ensures.content.did t).elsewhere.ticks.clock_is in
-          let attached = c.in-Ok.ensures.calls (c.in-Ok-say.ensures.content.before t) in
+          let clock = (c.in-Ok-say.ensures.content.did told_say).elsewhere.ticks.clock_is in
+          let attached = c.in-Ok.ensures.calls (c.in-Ok-say.ensures.content.before told_say) in
+          let tidied = tidying_calls g.W.Shelf.tells g.W.Shelf.world (λ s told f. g.met.W.Shelf.files_are s told f) job c.args.job.now.lines.now plan c.in-Ok.begun.standing.done paid
+          (drop c.count_before-before.result c.args.job.now.lines.now) _ _ _ turn told_say counted (c.in-Ok-tidy_last.ensures.calls t) in
           let left : length c.split_at.result.1.now ≡ length c.args.job.now.lines.now - c.count_before-before.result =
           ap length rest ∙ length-drop c.count_before-before.result c.args.job.now.lines.now in
           let size = length-without_budget c.args.job.now.bytes.now in
-          omega (arith, clock, attached, left, few, size);
+          omega (arith, clock, attached, tidied, left, few, size);
       paid = λ t paid rest_calls is.
-          let said = (c.in-Ok-say.ensures.content.did t).elsewhere in
-          let told_mid = c.in-Ok-say.ensures.content.before t in
-          banner_so_far g.W.Shelf.tells g.W.Shelf.world (λ s told f. g.met.W.Shelf.files_are s told f) job (length c.args.job.now.lines.now) c.args.job.now.bytes.now _ _ _
-          (sym (length-without_budget c.args.job.now.bytes.now)) c.in-Ok.ensures.content told_mid (c.in-Ok.ensures.calls told_mid) said.ticks said.folder_is (length c.split_at.result.1.now) c.in-Ok.begun.standing.done paid rest_calls is;
+          let told_say = c.in-Ok-tidy_last.ensures.content.before t in
+          let said = (c.in-Ok-say.ensures.content.did told_say).elsewhere in
+          let told_mid = c.in-Ok-say.ensures.content.before told_say in
+          let at = (turn.did told_say).0 in
+          tidied_so_far g.W.Shelf.tells g.W.Shelf.world (λ s told f. g.met.W.Shelf.files_are s told f) job (length c.args.job.now.lines.now) plan.well_formed c.in-Ok.begun.standing.done
+          (length c.split_at.result.1.now) _ _ _ (turn.before told_say) at.upto (λ sound. (at.sound sound).holds) c.in-Ok-tidy_last.ensures.content t (c.in-Ok-tidy_last.ensures.calls t).most paid rest_calls is
+          (banner_so_far g.W.Shelf.tells g.W.Shelf.world (λ s told f. g.met.W.Shelf.files_are s told f) job (length c.args.job.now.lines.now) c.args.job.now.bytes.now _ _ _
+          (sym (length-without_budget c.args.job.now.bytes.now)) c.in-Ok.ensures.content told_mid (c.in-Ok.ensures.calls told_mid) said.ticks said.folder_is paid rest_calls is);
       gated = λ t sound within.
           begun_gated g.W.Shelf.tells g.W.Shelf.world (λ s told f. g.met.W.Shelf.files_are s told f) job plan.well_formed c.args.job.now.bytes.now c.in-Ok.begun _ _ refl
-          c.in-Ok.ensures.content c.in-Ok.ensures.answer c.in-Ok.ensures.asked (c.in-Ok-say.ensures.content.before t) sound within;
+          c.in-Ok.ensures.content c.in-Ok.ensures.answer c.in-Ok.ensures.asked (c.in-Ok-say.ensures.content.before (c.in-Ok-tidy_last.ensures.content.before t)) sound within;
+      emptied = λ t sound.
+          let told_say = c.in-Ok-tidy_last.ensures.content.before t in
+          let told_mid = c.in-Ok-say.ensures.content.before told_say in
+          let says : IsStanding job.bytes (length job.steps) c.in-Ok.begun.standing (present (now (g.W.Shelf.world c.args.station.now)).folder) =
+          standing_says c.args.job.now.bytes.now job.bytes refl (length job.steps) (present (now (g.W.Shelf.world c.args.station.now)).folder) (Ok c.in-Ok.begun.standing)
+          (c.in-Ok.ensures.answer told_mid) in
+          emptied_at_first g.W.Shelf.tells g.W.Shelf.world (λ s told f. g.met.W.Shelf.files_are s told f) job c.args.job.now.lines.now plan c.in-Ok.begun.standing.done
+          (drop c.count_before-before.result c.args.job.now.lines.now) _ _ _ turn told_say says.done (c.in-Ok-tidy_last.ensures.empty t) sound;
       rise = subst (λ (ls : List LineEnd). IsTrue (rise_from c.in-Ok.begun.standing.done ls)) (sym rest) c.count_before-before.ensures.rest;
       shown = subst (λ (ls : List LineEnd). IsTrue (list_all (shows_past (length c.args.job.now.steps.now)) ls)) (sym rest)
           (rest_passes (shows_past (length c.args.job.now.steps.now)) c.args.job.now.lines.now c.count_before-before.result c.args.job.now.are_lines.show_past);
-      folder_later = let a = attach_faults.later in let b = say_faults.folder_is in omega (arith, a, b);
-      say_later = let a = attach_faults.say_is in let b = say_faults.later in omega (arith, a, b);
-      text_is = λ path. say_faults.text_is path ∙ attach_faults.text_is path;
+      folder_later = let a = attach_faults.later in let b = say_faults.folder_is in let e = tidy_faults.later in omega (arith, a, b, e);
+      say_later = let a = attach_faults.say_is in let b = say_faults.later in let e = tidy_faults.say_is in omega (arith, a, b, e);
+      text_is = λ path. tidy_faults.text_is path ∙ say_faults.text_is path ∙ attach_faults.text_is path;
     }
+
+-- the last committed step couldn't be tidied up
+pub returns-in_default-tidy_last-clause-content : goal.returns-in_default-tidy_last-clause-content
+returns-in_default-tidy_last-clause-content g c =
+    let job : Job = job_in c.args.job.now in
+    let plan = plan_in c.args.job.now in
+    let turn = told_second g.W.Shelf.tells g.W.Shelf.world _ _ _ _ (says_banner g.W.Shelf.tells g.W.Shelf.world (λ s told f. g.met.W.Shelf.files_are s told f) job c.args.job.now.lines.now plan c.args.job.now.bytes.now c.in-Ok.begun.standing c.count_before-before.result c.as_bytes.result.now _ _ _ _ refl
+    c.in-Ok.ensures.content c.in-Ok.ensures.answer c.in-Ok.ensures.ok
+    c.count_before-before.ensures.within c.count_before-before.ensures.front c.count_before-before.ensures.rest
+    (c.as_bytes.ensures.value ∙ c.as_str.ensures.value ∙ c.banner_line-banner.ensures.text) c.in-Ok-say.ensures.content) in
+    stops_tidying g.W.Shelf.tells g.W.Shelf.world (λ s told f. g.met.W.Shelf.files_are s told f) job c.args.job.now.lines.now plan c.in-Ok.begun.standing.done
+    (drop c.count_before-before.result c.args.job.now.lines.now) _ _
+    (tidies_last g.W.Shelf.tells g.W.Shelf.world (λ s told f. g.met.W.Shelf.files_are s told f) job c.args.job.now.lines.now plan c.in-Ok.begun.standing.done
+    (drop c.count_before-before.result c.args.job.now.lines.now) _ _ _ c.count_before-before.ensures.rest turn c.in_default-tidy_last.ensures.content)
+
+pub returns-in_default-tidy_last-clause-calls : goal.returns-in_default-tidy_last-clause-calls
+returns-in_default-tidy_last-clause-calls g c t paid counted =
+    let job : Job = job_in c.args.job.now in
+    let plan = plan_in c.args.job.now in
+    let turn = told_second g.W.Shelf.tells g.W.Shelf.world _ _ _ _ (says_banner g.W.Shelf.tells g.W.Shelf.world (λ s told f. g.met.W.Shelf.files_are s told f) job c.args.job.now.lines.now plan c.args.job.now.bytes.now c.in-Ok.begun.standing c.count_before-before.result c.as_bytes.result.now _ _ _ _ refl
+    c.in-Ok.ensures.content c.in-Ok.ensures.answer c.in-Ok.ensures.ok
+    c.count_before-before.ensures.within c.count_before-before.ensures.front c.count_before-before.ensures.rest
+    (c.as_bytes.ensures.value ∙ c.as_str.ensures.value ∙ c.banner_line-banner.ensures.text) c.in-Ok-say.ensures.content) in
+    let told_say = c.in_default-tidy_last.ensures.content.before t in
+    let clock = (c.in-Ok-say.ensures.content.did told_say).elsewhere.ticks.clock_is in
+    let attached = c.in-Ok.ensures.calls (c.in-Ok-say.ensures.content.before told_say) in
+    let tidied = tidying_calls g.W.Shelf.tells g.W.Shelf.world (λ s told f. g.met.W.Shelf.files_are s told f) job c.args.job.now.lines.now plan c.in-Ok.begun.standing.done paid
+    (drop c.count_before-before.result c.args.job.now.lines.now) _ _ _ turn told_say counted (c.in_default-tidy_last.ensures.calls t) in
+    let no_more = calls_before_all job c.in-Ok.begun.standing.done in
+    let size = length-without_budget c.args.job.now.bytes.now in
+    omega (arith, clock, attached, tidied, no_more, size)
+
+pub returns-in_default-tidy_last-clause-stops : goal.returns-in_default-tidy_last-clause-stops
+returns-in_default-tidy_last-clause-stops g c t paid rest_calls is =
+    let job : Job = job_in c.args.job.now in
+    let plan = plan_in c.args.job.now in
+    let turn = told_second g.W.Shelf.tells g.W.Shelf.world _ _ _ _ (says_banner g.W.Shelf.tells g.W.Shelf.world (λ s told f. g.met.W.Shelf.files_are s told f) job c.args.job.now.lines.now plan c.args.job.now.bytes.now c.in-Ok.begun.standing c.count_before-before.result c.as_bytes.result.now _ _ _ _ refl
+    c.in-Ok.ensures.content c.in-Ok.ensures.answer c.in-Ok.ensures.ok
+    c.count_before-before.ensures.within c.count_before-before.ensures.front c.count_before-before.ensures.rest
+    (c.as_bytes.ensures.value ∙ c.as_str.ensures.value ∙ c.banner_line-banner.ensures.text) c.in-Ok-say.ensures.content) in
+    (let told_say = c.in_default-tidy_last.ensures.content.before t in
+    let said = (c.in-Ok-say.ensures.content.did told_say).elsewhere in
+    let told_mid = c.in-Ok-say.ensures.content.before told_say in
+    let at = (turn.did told_say).0 in
+    tidied_so_far g.W.Shelf.tells g.W.Shelf.world (λ s told f. g.met.W.Shelf.files_are s told f) job (length c.args.job.now.lines.now) plan.well_formed c.in-Ok.begun.standing.done
+    0 _ _ _ (turn.before told_say) at.upto (λ sound. (at.sound sound).holds) c.in_default-tidy_last.ensures.content t (c.in_default-tidy_last.ensures.calls t).most paid rest_calls is
+    (banner_so_far g.W.Shelf.tells g.W.Shelf.world (λ s told f. g.met.W.Shelf.files_are s told f) job (length c.args.job.now.lines.now) c.args.job.now.bytes.now _ _ _
+    (sym (length-without_budget c.args.job.now.bytes.now)) c.in-Ok.ensures.content told_mid (c.in-Ok.ensures.calls told_mid) said.ticks said.folder_is paid rest_calls is)).stops
 
 pub take_step-requires-clause-ready : goal.take_step-requires-clause-ready
 take_step-requires-clause-ready g c =
@@ -202,6 +272,12 @@ loop-step-preserved g c =
           let reached = (invariant.so_far.did told_before).0.reached in
           none_behind_first job (now (g.W.Shelf.world c.args.station.now)).folder (λ f. g.met.W.Shelf.files_are c.args.station.now (invariant.so_far.before told_before) f) sound
           (c.loop-step.step + 1) (omega (arith, reached)) within;
+      emptied = λ t sound.
+          let told_take = c.in-Ok-say_lines.ensures.content.before t in
+          let told_before = c.in-Ok-take_step.ensures.content.before told_take in
+          emptied_on g.W.Shelf.tells g.W.Shelf.world (λ s told f. g.met.W.Shelf.files_are s told f) job c.args.job.now.lines.now plan
+          (done_at (g.W.Shelf.world c.args.station.now) - 1) c.loop-step.step e _ _ _ c.loop-step-test.true (c.in-Ok-take_step.ensures.content.did told_take)
+          (c.in-Ok-say_lines.ensures.content.did t).files (invariant.emptied told_before sound);
       rise = subst (λ (ls : List LineEnd). IsTrue (rise_from (c.loop-step.step + 1) ls)) (sym rest) c.count_before.ensures.rest;
       shown = subst (λ (ls : List LineEnd). IsTrue (list_all (shows_past (length c.args.job.now.steps.now)) ls)) (sym rest)
           (rest_passes (shows_past (length c.args.job.now.steps.now)) c.loop-step.rest.now c.count_before.result invariant.shown);
@@ -227,6 +303,10 @@ returns-clause-content g c =
     let none : c.loop-step.rest.now ≡ [] =
     none_left (length c.args.job.now.steps.now) c.loop-step.rest.now (rises_earlier (length c.args.job.now.steps.now) c.loop-step.step c.loop-step.rest.now all_made c.loop-step.invariant.rise) c.loop-step.invariant.shown in
     is_done g.W.Shelf.tells g.W.Shelf.world (λ s told f. g.met.W.Shelf.files_are s told f) job c.args.job.now.lines.now plan _ _ (says_done g.W.Shelf.tells g.W.Shelf.world (λ s told f. g.met.W.Shelf.files_are s told f) job c.args.job.now.lines.now plan c.loop-step.step c.loop-step.rest.now done_line _ _ _ _ all_made none refl c.loop-step.invariant.so_far c.in-Ok-say-2.ensures.content)
+    (λ t sound k from until gone drops_it.
+    let said = (c.in-Ok-say-2.ensures.content.did t).elsewhere in
+    subst (λ folder. (file_in folder (node_file gone)).bytes ≡ []) (sym said.folder_is)
+    (c.loop-step.invariant.emptied (c.in-Ok-say-2.ensures.content.before t) sound k from (omega (arith, until, all_made)) gone drops_it))
 
 -- the calls of a run that stops before its end, and of one that comes to it
 pub returns-in-Err-Shelf-clause-calls : goal.returns-in-Err-Shelf-clause-calls
@@ -322,7 +402,7 @@ returns-in_default-clause-stops g c t paid rest_calls is =
     let said = (c.in_default.ensures.content.did t).elsewhere in
     let told_mid = c.in_default.ensures.content.before t in
     (banner_so_far g.W.Shelf.tells g.W.Shelf.world (λ s told f. g.met.W.Shelf.files_are s told f) (job_in c.args.job.now) (length c.args.job.now.lines.now)
-    c.args.job.now.bytes.now _ _ _ (sym (length-without_budget c.args.job.now.bytes.now)) c.in-Ok.ensures.content told_mid (c.in-Ok.ensures.calls told_mid) said.ticks said.folder_is 0 0 paid rest_calls is).stops
+    c.args.job.now.bytes.now _ _ _ (sym (length-without_budget c.args.job.now.bytes.now)) c.in-Ok.ensures.content told_mid (c.in-Ok.ensures.calls told_mid) said.ticks said.folder_is paid rest_calls is).stops
 
 pub returns-in-Err-clause-stops : goal.returns-in-Err-clause-stops
 returns-in-Err-clause-stops g c t paid rest_calls is =
