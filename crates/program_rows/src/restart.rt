@@ -1,7 +1,9 @@
 // Runs in a folder where a run ended or was stopped, and in folders that hold something else.
 use crate::case::{Case, all_go};
 use crate::scripts::{AND_SCRIPT, AND_TEXT, DROPPING, DROPPING_TEXT, THREE_TEXT, THREE_VARIABLES};
-use case_runs::{Act, DIFFERENT, FIRST, LIST, ONE_TEXT, ONE_VARIABLE, RUN, SMALL, THIRD, USAGE};
+use case_runs::{
+    Act, DIFFERENT, FIRST, LIST, NEVER, ONE_TEXT, ONE_VARIABLE, RUN, SMALL, THIRD, USAGE,
+};
 use file_numbers::{CATALOGUE, CHECKPOINT_GATE_PART, JOB, STEP_GATE};
 use shelf_memory::Choice;
 use shelf_model::FileNo;
@@ -499,7 +501,79 @@ const CHANGED: [Case; 6] = [
     ),
 ];
 
-const FAMILIES: [&[Case]; 7] = [
+/// A run of four steps that ends once the last one is committed, which drops the diagram of the first one.
+const DROP_STOPPED: &[Act] = &[
+    Act::Put("script", DROPPING),
+    Act::FailWhen(STEP_GATE, 4),
+    Act::Run(&RUN, 7, b"start 4\n2: nodes 0\n3: nodes 1\n4: nodes 1\n"),
+    Act::Stop(Choice::Present),
+    Act::Words(FIRST, NEVER),
+];
+
+/// The same of three steps, of which the second is the drop.
+const EARLY_DROP_STOPPED: &[Act] = &[
+    Act::Put("script", b"vars a b\nconst z 0\ndrop z\nvar f b\n"),
+    Act::FailWhen(STEP_GATE, 2),
+    Act::Run(&RUN, 7, b"start 3\n2: nodes 0\n"),
+    Act::Stop(Choice::Present),
+    Act::Words(FIRST, NEVER),
+];
+
+/// What a stop kept a run from cutting behind a step's commit is cut by the next run, unless the entry of the step isn't
+/// whole, whose kind is its fifth byte.
+const LEFT: [Case; 5] = [
+    (
+        "a diagram that the last step drops",
+        DROP_STOPPED,
+        &[
+            Act::Run(&RUN, 0, b"resume 4 of 4\ndone\n"),
+            Act::Length(FIRST, 0),
+        ],
+        None,
+    ),
+    (
+        "a diagram that an earlier step drops",
+        EARLY_DROP_STOPPED,
+        &[
+            Act::Run(&RUN, 0, b"resume 2 of 3\n4: nodes 1\ndone\n"),
+            Act::Length(FIRST, 0),
+        ],
+        None,
+    ),
+    (
+        "a diagram whose drop has an entry that can't be read",
+        EARLY_DROP_STOPPED,
+        &[
+            Act::FailAt(13),
+            Act::Run(&RUN, 7, b"resume 2 of 3\n"),
+            Act::Calls(14),
+            Act::Words(FIRST, NEVER),
+        ],
+        None,
+    ),
+    (
+        "a diagram that can't be cut",
+        EARLY_DROP_STOPPED,
+        &[
+            Act::FailAt(14),
+            Act::Run(&RUN, 7, b"resume 2 of 3\n"),
+            Act::Calls(15),
+        ],
+        None,
+    ),
+    (
+        "a drop whose entry has another kind",
+        EARLY_DROP_STOPPED,
+        &[
+            Act::Replace(CATALOGUE, 132, 133, &[3]),
+            Act::Run(&RUN, 0, b"resume 2 of 3\n4: nodes 1\ndone\n"),
+            Act::Words(FIRST, NEVER),
+        ],
+        None,
+    ),
+];
+
+const FAMILIES: [&[Case]; 8] = [
     &STOPPED,
     &BETWEEN,
     &OTHER_JOBS,
@@ -507,6 +581,7 @@ const FAMILIES: [&[Case]; 7] = [
     &DAMAGED,
     &CHANGED,
     &SIZES,
+    &LEFT,
 ];
 
 #[test]

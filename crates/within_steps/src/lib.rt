@@ -18,4 +18,6 @@ mod steps;
 #[cfg(test)]
 mod stops;
 #[cfg(test)]
+mod tidied;
+#[cfg(test)]
 mod words;
