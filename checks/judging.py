@@ -141,6 +141,8 @@ class Judge:
             self.fault("the job isn't stored, or fewer steps are counted")
         for step in range(self.counted, self.after):
             self.judge_step(step)
+        if self.outcome.status == 0 and self.counted:
+            self.judge_last(self.counted - 1)
 
     def is_ahead(self, step, part, new):
         """Whether a file that was made is an empty node file, as a run makes them ahead of their steps."""
@@ -155,8 +157,11 @@ class Judge:
         if step >= min(self.after + 1, len(self.plan.steps)):
             return False
         if step < self.counted:
-            made = self.plan.steps[self.counted : self.after]
-            return part == NODES and not new and any(of.kind == "drop" and step in of.operands for of in made)
+            # What the last committed step left behind is cut once more.
+            made = self.plan.steps[self.counted - 1 : self.after]
+            if part == NODES:
+                return not new and any(of.kind == "drop" and step in of.operands for of in made)
+            return not new and step == self.counted - 1 and made[0].sweeps()
         planned = self.plan.steps[step]
         if part == NODES and planned.entry_kind() == 1:
             return True
@@ -174,6 +179,16 @@ class Judge:
             self.fault(f"the file of step {number} has another number of nodes than its entry")
         if step.sweeps() and any(held(self.left, number, part) for part in self.parts_of(number, entry.next_part)):
             self.fault(f"step {number} wasn't tidied up")
+
+    def judge_last(self, number):
+        """The last step that was committed before this run, which had all calls it wanted."""
+        entry, step = entry_at(self.found, number), self.plan.steps[number]
+        if not entry or entry.kind != step.entry_kind():
+            return
+        if step.kind == "drop" and held(self.left, step.operands[0], NODES):
+            self.fault(f"what step {number} dropped is still there")
+        if step.sweeps() and any(held(self.left, number, part) for part in self.parts_of(number, FIRST_RUN)):
+            self.fault(f"step {number} wasn't tidied up behind a stop")
 
     def parts_of(self, step, end):
         """The parts of a step that are there, behind its node file and below a number, 5 at least."""

@@ -97,10 +97,10 @@ def entries(folder):
 
 def compare(whole, folder):
     """Compares what has to be equal in two folders, as `kill_and_resume` does. The file of a diagram that was dropped is
-    empty in a folder that nothing stopped, and may stay where a stop came between the drop's commit and its cut."""
-    names = [JOB, *(path.name for path in whole.glob("s*p0") if size(path))]
+    empty in both: where a stop comes between the drop's commit and its cut the next run cuts it."""
+    names = {JOB, *(path.name for place in (whole, folder) for path in place.glob("s*p0") if size(path))}
     for name in names:
-        if not (folder / name).exists() or (whole / name).read_bytes() != (folder / name).read_bytes():
+        if size(whole / name) != size(folder / name) or (whole / name).read_bytes() != (folder / name).read_bytes():
             fail(f"{name} differs")
     if entries(whole) != entries(folder):
         fail("an entry differs")
