@@ -41,8 +41,8 @@ AsksOwn Choice operands = Unit
 AsksOwn (Quantifier kind level) operands = operands.second ≡ operands.first
 AsksOwn (Restriction level value) operands = Unit
 
--- a step that makes a diagram misses a node that another one names, and only where it asks the file of one diagram for
--- pointers of another one a node that no other may name
+-- a step that makes a diagram misses a node that another one names; where it asks the file of one diagram for pointers of
+-- another one, it misses one that it asks for, which no node may name
 pub record MissesIn (operation : StepOperation) (operands : OperandFiles) (bytes : List ℕ) (at : ℕ) : Type 0 where
   pub key : ℕ
   pub absent : IsAbsent bytes key at
