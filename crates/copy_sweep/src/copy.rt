@@ -1,8 +1,12 @@
+use crate::resume::{STEP, cut_behind};
+use crate::saved::Saved;
 use node_file::copy_piece;
+use rec_words::Rec;
 use run_tiers::Parts;
+use saved_words::{value_of, words_of};
 use shelf_model::{FileNo, PIECE, Shelf, SortFault};
 use std::marker::PhantomData;
-use sweep_core::{Sweep, Turn};
+use sweep_core::{Checkpoint, Sweep, Turn, fill_without_runs};
 
 /// The copy of a file: which file is read, which one is made, and how many pieces of 2,048 bytes are copied. Where the
 /// file that is read has no more, all of it is.
@@ -93,7 +97,7 @@ impl<'r> CopySweep<'r> {
 impl<'r> Sweep<'r> for CopySweep<'r> {
     ghost use Rattle.std.specs.Prelude.{ℕ, List};
     ghost use Rattle.copy_sweep.specs.declared.copy.CopyTask.{CopyTask};
-    ghost use Rattle.copy_sweep.specs.Resumes.{copy_saving};
+    ghost use Rattle.copy_sweep.specs.Resumes.{copy_saving, Blames, stays, apart};
     ghost use Rattle.copy_sweep.specs.Copies.{accounts, fuel_of, left_of, Copies, IsReady, IsInStep, HasCopied, IsFailure};
 
     ghost Job = { List ℕ };
@@ -107,6 +111,8 @@ impl<'r> Sweep<'r> for CopySweep<'r> {
     ghost accounts = { accounts };
 
     ghost damaged = { λ sweep world e. IsFailure e };
+
+    ghost blames = { Blames };
 
     ghost Task = { CopyTask };
 
@@ -129,4 +135,45 @@ impl<'r> Sweep<'r> for CopySweep<'r> {
             self.finish(shelf)
         }
     }
+
+    fn carry<S: Shelf>(&mut self, shelf: &mut S, into: &mut Checkpoint) -> Result<(), SortFault> {
+        let made = self.task.to;
+        shelf.sync(made)?;
+        let len = shelf.len(made)?;
+        // A turn that synced the pieces is made again.
+        let turns = self.turns.min(self.task.pieces);
+        let saved = Saved {
+            task: self.task,
+            turns,
+            kept: len.min(turns * STEP),
+        };
+        fill_without_runs(into, self.parts.next, words_of(saved));
+        Ok(())
+    }
+
+    fn rebuild<S: Shelf>(
+        from: &Checkpoint,
+        text: &'r [u8],
+        room: &'r mut [Rec],
+        shelf: &mut S,
+    ) -> Result<CopySweep<'r>, SortFault> {
+        let Some(saved) = value_of::<Saved>(&from.carry) else {
+            unreachable!();
+        };
+        saved.agree(from.step, shelf)?;
+        cut_behind(saved.task.to, saved.kept, shelf)?;
+        Ok(CopySweep {
+            task: saved.task,
+            parts: Parts {
+                step: from.step,
+                next: from.next_part,
+            },
+            turns: saved.turns,
+            room: PhantomData,
+        })
+    }
+
+    ghost stays = { stays };
+
+    ghost apart = { apart };
 }

@@ -1,29 +1,23 @@
-//! A copy that is saved between two turns, and goes on from there.
-ghost use Rattle.std.specs.Prelude.{◌≡◌, ◌≢◌, ◌↔◌, ◌+◌, ◌*◌, ◌<◌, ◌≤◌, min, IsTrue, IfOk, IfErr, IfSome, IfNone, OnOk, length, take};
+//! What a copy looks at before it goes on from a checkpoint.
+ghost use Rattle.std.specs.Prelude.{◌≡◌, ◌≢◌, ◌↔◌, ◌+◌, ◌*◌, ◌≤◌, min, IsTrue, IfErr, IfSome, IfNone, OnOk, length, take};
 ghost use Rattle.copy_sweep.specs.declared.copy.CopyTask.{CopyTask};
 ghost use Rattle.shelf_model.specs.World.{now, file};
 ghost use Rattle.shelf_model.specs.Calls.{Told, longest, most_piece};
-ghost use Rattle.shelf_model.specs.File.{firm_file};
 ghost use Rattle.shelf_model.specs.Moments.{Ran, Stays};
 ghost use Rattle.run_tiers.specs.Faults.{OnlySortShelf};
 ghost use Rattle.sweep_core.specs.Saving.{reads_of};
-ghost use Rattle.copy_sweep.specs.Copies.{IsFailure};
 ghost use Rattle.copy_sweep.specs.Resumes.{OnlyBehind, IsShortFault, IsMisfitFault, pieces_of, KeepsRules, Fits, Names};
 
 use crate::saved::Saved;
 use crate::{CopySweep, CopyTask};
 use file_numbers::{INNER_PART, checkpoint_file};
-use rec_words::{NODE_SIZE, Rec};
-use run_tiers::Parts;
-use saved_words::{value_of, words_of};
+use rec_words::NODE_SIZE;
+use saved_words::value_of;
 use shelf_model::{FileNo, LONGEST, PIECE, Shelf, SortFault};
-use std::marker::PhantomData;
-use sweep_core::{
-    Checkpoint, Resume, checkpoint_place, fill_without_runs, is_made_part, is_read_part,
-};
+use sweep_core::{Checkpoint, checkpoint_place, is_made_part, is_read_part};
 
 // A piece in bytes.
-const STEP: u64 = PIECE as u64;
+pub(crate) const STEP: u64 = PIECE as u64;
 
 impl<'r> CopySweep<'r> {
     /// Whether a checkpoint keeps the rules of a copy's. It takes no memory.
@@ -65,7 +59,7 @@ impl Saved {
     }
 
     // Has as many bytes kept as the turns put there of the file that is read.
-    fn agree<S: Shelf>(&self, step: u32, shelf: &mut S) -> Result<(), SortFault>
+    pub(crate) fn agree<S: Shelf>(&self, step: u32, shelf: &mut S) -> Result<(), SortFault>
         requires few { self.now.turns * most_piece ≤ longest }
         ensures agrees { OnOk result (IsTrue (S.tells shelf.new) →
             self.now.kept ≡ min (pieces_of self.now) (length (file (S.world shelf.old) self.now.task.from).bytes)) }
@@ -91,7 +85,7 @@ impl Saved {
 }
 
 // Cuts a file to the bytes that were kept of it, which it has to have.
-fn cut_behind<S: Shelf>(made: FileNo, kept: u64, shelf: &mut S) -> Result<(), SortFault>
+pub(crate) fn cut_behind<S: Shelf>(made: FileNo, kept: u64, shelf: &mut S) -> Result<(), SortFault>
     ensures cut { OnOk result (IsTrue (S.tells shelf.new) →
         (file (S.world shelf.new) made).bytes ≡ take kept (file (S.world shelf.old) made).bytes) }
     ensures long { OnOk result (IsTrue (S.tells shelf.new) →
@@ -115,50 +109,4 @@ fn cut_behind<S: Shelf>(made: FileNo, kept: u64, shelf: &mut S) -> Result<(), So
         shelf.cut(made, kept)?;
     }
     Ok(())
-}
-
-impl<'r> Resume<'r> for CopySweep<'r> {
-    ghost use Rattle.copy_sweep.specs.Resumes.{Blames, stays, apart};
-
-    ghost blames = { Blames };
-
-    fn carry<S: Shelf>(&mut self, shelf: &mut S, into: &mut Checkpoint) -> Result<(), SortFault> {
-        shelf.sync(self.task.to)?;
-        let len = shelf.len(self.task.to)?;
-        // A turn that synced the pieces is made again.
-        let turns = self.turns.min(self.task.pieces);
-        let saved = Saved {
-            task: self.task,
-            turns,
-            kept: len.min(turns * STEP),
-        };
-        fill_without_runs(into, self.parts.next, words_of(saved));
-        Ok(())
-    }
-
-    fn rebuild<S: Shelf>(
-        from: &Checkpoint,
-        text: &'r [u8],
-        room: &'r mut [Rec],
-        shelf: &mut S,
-    ) -> Result<CopySweep<'r>, SortFault> {
-        let Some(saved) = value_of::<Saved>(&from.carry) else {
-            unreachable!();
-        };
-        saved.agree(from.step, shelf)?;
-        cut_behind(saved.task.to, saved.kept, shelf)?;
-        Ok(CopySweep {
-            task: saved.task,
-            parts: Parts {
-                step: from.step,
-                next: from.next_part,
-            },
-            turns: saved.turns,
-            room: PhantomData,
-        })
-    }
-
-    ghost stays = { stays };
-
-    ghost apart = { apart };
 }

@@ -1,10 +1,12 @@
 //! Whether one function implies another, as a sweep.
 use crate::ProductSweep;
+use crate::resume::phase_of;
 use bool_tables::Bin;
 use rec_words::Rec;
 use run_merge::Parts;
 use shelf_model::{FileNo, Shelf, SortFault};
-use sweep_core::{Sweep, Turn};
+use sweep_core::{Checkpoint, Sweep, Turn};
+use table_work::TableSweep;
 
 /// Whether the left function implies the right one everywhere: the arcs of "left and not right" are made, until one
 /// leads to 1 or there are no more.
@@ -127,9 +129,13 @@ impl<'r> LeqSweep<'r> {
 }
 
 impl<'r> Sweep<'r> for LeqSweep<'r> {
+    ghost use Rattle.table_work.specs.TableSaving.{table_stays};
+    ghost use Rattle.top_down_sweep.specs.Resumes.{Blames, top_saving};
+    ghost use Rattle.top_down_sweep.specs.ResumeLaws.{stays, apart};
     ghost use Rattle.top_down_sweep.specs.Sweeps.{SweepTask};
     ghost use Rattle.product_sweep.specs.Implications.{Implication, Refutes, fuel_of, turns_left, accounts, IsDamage, task_of, IsReady, IsInStep, IsTrusted};
-    ghost use Rattle.product_sweep.specs.LeqSaving.{leq_saving};
+    ghost use Rattle.product_sweep.specs.LeqSaving.{leq_saving, product_words, leq_stays};
+    ghost use Rattle.product_sweep.specs.Products.{rule_of, begins_of};
     ghost use Rattle.product_sweep.specs.Trusting.{refutes_trusted};
 
     ghost Job = { Implication };
@@ -143,6 +149,8 @@ impl<'r> Sweep<'r> for LeqSweep<'r> {
     ghost accounts = { accounts };
 
     ghost damaged = { IsDamage };
+
+    ghost blames = { Blames product_words };
 
     ghost Task = { SweepTask };
 
@@ -164,4 +172,27 @@ impl<'r> Sweep<'r> for LeqSweep<'r> {
             LeqPhase::Answered(_) => Ok(Turn::Ended),
         }
     }
+
+    fn carry<S: Shelf>(&mut self, shelf: &mut S, into: &mut Checkpoint) -> Result<(), SortFault> {
+        match self.phase {
+            LeqPhase::Making => self.carry_arcs(shelf, into),
+            LeqPhase::Answered(_) => unreachable!(),
+        }
+    }
+
+    fn rebuild<S: Shelf>(
+        from: &Checkpoint,
+        text: &'r [u8],
+        room: &'r mut [Rec],
+        shelf: &mut S,
+    ) -> Result<LeqSweep<'r>, SortFault> {
+        let product = TableSweep::rebuild(from, text, room, shelf)?;
+        let phase = phase_of(&product);
+        Ok(LeqSweep { product, phase })
+    }
+
+    ghost stays = { leq_stays (table_stays (top_saving product_words rule_of begins_of)
+        (stays product_words rule_of begins_of)) };
+
+    ghost apart = { apart product_words };
 }

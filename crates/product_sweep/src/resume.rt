@@ -1,22 +1,20 @@
-//! A sweep that answers an implication, saved between two turns, and rebuilt.
-ghost use Rattle.std.specs.Prelude.{◌≡◌, ◌<◌, IsTrue};
-ghost use Rattle.product_sweep.specs.Implications.{IsReady, IsInStep, fuel_of};
+//! How a sweep that answers an implication is saved, and how far one is that was rebuilt.
+ghost use Rattle.std.specs.Prelude.{◌≡◌, IsTrue};
+ghost use Rattle.product_sweep.specs.Implications.{IsReady, IsInStep};
 ghost use Rattle.product_sweep.specs.LeqSaving.{Carried, leq_saving};
 ghost use Rattle.product_sweep.specs.LeqPhases.{IsPhaseOf};
 
 use crate::ProductSweep;
 use crate::leq::{LeqPhase, LeqSweep};
-use rec_words::Rec;
 use shelf_model::{Shelf, SortFault};
-use sweep_core::{Checkpoint, Resume};
-use table_work::TableSweep;
+use sweep_core::{Checkpoint, Sweep};
 
 impl<'r> LeqSweep<'r> {
     ghost use Rattle.sweep_core.specs.Saving.{IsOfStep};
     ghost use Rattle.product_sweep.specs.Implications.{accounts, task_of};
 
     // Saves the sweep that makes the arcs.
-    fn carry_arcs<S: Shelf>(
+    pub(crate) fn carry_arcs<S: Shelf>(
         &mut self,
         shelf: &mut S,
         into: &mut Checkpoint,
@@ -34,44 +32,11 @@ impl<'r> LeqSweep<'r> {
 }
 
 // How far a sweep is whose arcs are made so far.
-fn phase_of(product: &ProductSweep) -> LeqPhase
+pub(crate) fn phase_of(product: &ProductSweep) -> LeqPhase
     ensures { IsPhaseOf product.now result }
 {
     match product.made() {
         Some(_made) => LeqPhase::Answered(!product.sweep.meets_one()),
         None => LeqPhase::Making,
     }
-}
-
-impl<'r> Resume<'r> for LeqSweep<'r> {
-    ghost use Rattle.table_work.specs.TableSaving.{table_stays};
-    ghost use Rattle.top_down_sweep.specs.Resumes.{Blames, top_saving};
-    ghost use Rattle.top_down_sweep.specs.ResumeLaws.{stays, apart};
-    ghost use Rattle.product_sweep.specs.Products.{rule_of, begins_of};
-    ghost use Rattle.product_sweep.specs.LeqSaving.{product_words, leq_stays};
-
-    ghost blames = { Blames product_words };
-
-    fn carry<S: Shelf>(&mut self, shelf: &mut S, into: &mut Checkpoint) -> Result<(), SortFault> {
-        match self.phase {
-            LeqPhase::Making => self.carry_arcs(shelf, into),
-            LeqPhase::Answered(_) => unreachable!(),
-        }
-    }
-
-    fn rebuild<S: Shelf>(
-        from: &Checkpoint,
-        text: &'r [u8],
-        room: &'r mut [Rec],
-        shelf: &mut S,
-    ) -> Result<LeqSweep<'r>, SortFault> {
-        let product = TableSweep::rebuild(from, text, room, shelf)?;
-        let phase = phase_of(&product);
-        Ok(LeqSweep { product, phase })
-    }
-
-    ghost stays = { leq_stays (table_stays (top_saving product_words rule_of begins_of)
-        (stays product_words rule_of begins_of)) };
-
-    ghost apart = { apart product_words };
 }

@@ -1,4 +1,4 @@
-//! A reduction that is saved between two turns, and goes on from there.
+//! What a checkpoint keeps of a reduction, and how that goes on from it.
 ghost use Rattle.std.specs.Prelude.{◌≡◌, ◌≢◌, ℕ, ◌+◌, ◌*◌, ◌≤◌, ◌^◌, IsTrue, OnOk, IfOk, IfErr, length, take};
 ghost use Rattle.shelf_model.specs.Calls.{Told};
 ghost use Rattle.shelf_model.specs.File.{firm_file};
@@ -16,24 +16,18 @@ ghost use Rattle.reduce_sweep.specs.Saving.{saved_of, item_at};
 use crate::phase::Phase;
 use crate::place::Place;
 use crate::reduce::ReduceSweep;
-use crate::rules::table_of;
 use crate::saved::Saved;
 use crate::saved_phase::SavedPhase;
-use crate::start::{READING, WRITING};
 use arc_diagrams::FinalArc;
-use arc_file::{Arc, ArcReader, Unreduced};
-use level_queue::LevelQueue;
+use arc_file::{Arc, Unreduced};
 use node_file::NodeWriter;
 use rec_words::Rec;
-use reduce_lists::{Ahead, Lists};
-use run_merge::{Parts, Sorter};
-use saved_words::{Item, value_of, words_of};
+use saved_words::Item;
 use shelf_model::{Shelf, SortFault};
-use sweep_core::{Checkpoint, Resume, fill_with_runs};
 
 impl<'r> ReduceSweep<'r> {
     // What a checkpoint keeps of it. The arcs at hand are among those that aren't done with.
-    fn saved(&self) -> Saved
+    pub(crate) fn saved(&self) -> Saved
         requires few { AreFew (arcs_of self.now) self.now.ahead.reader self.now.ahead.inner self.now.ahead.end }
         ensures { result ≡ saved_of self.now }
     {
@@ -81,7 +75,7 @@ fn item_of(arc: Option<FinalArc>) -> Option<Item<FinalArc>>
 
 impl Saved {
     // The last arc that was taken of the queue.
-    fn last_arc(&self) -> Option<FinalArc>
+    pub(crate) fn last_arc(&self) -> Option<FinalArc>
         ensures { result ≡ arc_at self.now.last }
     {
         match self.last {
@@ -91,7 +85,7 @@ impl Saved {
     }
 
     // The place at which it stands in that phase.
-    fn place(&self, phase: Phase) -> Place
+    pub(crate) fn place(&self, phase: Phase) -> Place
         ensures { result ≡ place_of self.now phase }
     {
         Place {
@@ -104,7 +98,7 @@ impl Saved {
     }
 
     // Goes on behind the nodes that are kept. Where the reduction has ended they are made sure with the trailer.
-    fn writer<'r, S: Shelf>(
+    pub(crate) fn writer<'r, S: Shelf>(
         &self,
         phase: &Phase,
         window: &'r mut [Rec],
@@ -135,65 +129,4 @@ impl Saved {
         }
         Ok(writer)
     }
-}
-
-impl<'r> Resume<'r> for ReduceSweep<'r> {
-    ghost use Rattle.reduce_sweep.specs.Resumes.{Blames};
-    ghost use Rattle.reduce_sweep.specs.ResumeLaws.{stays, apart};
-
-    ghost blames = { Blames };
-
-    fn carry<S: Shelf>(&mut self, shelf: &mut S, into: &mut Checkpoint) -> Result<(), SortFault> {
-        let tables = self.settle(shelf)?;
-        fill_with_runs(into, self.parts.next, words_of(self.saved()), &tables);
-        Ok(())
-    }
-
-    fn rebuild<S: Shelf>(
-        from: &Checkpoint,
-        text: &'r [u8],
-        room: &'r mut [Rec],
-        shelf: &mut S,
-    ) -> Result<ReduceSweep<'r>, SortFault> {
-        let Some(saved) = value_of::<Saved>(&from.carry) else {
-            unreachable!();
-        };
-        let Some(phase) = saved.phase.phase() else {
-            unreachable!();
-        };
-        let (reading, rest) = room.split_at_mut(READING);
-        let (writing, lists) = rest.split_at_mut(WRITING);
-        let most = lists.len() / 3 * 2;
-        let (queue, sorters) = lists.split_at_mut(most);
-        let half = sorters.len() / 2;
-        let (rows, names) = sorters.split_at_mut(half);
-        let writer = saved.writer(&phase, writing, shelf)?;
-        let place = saved.place(phase);
-        let mut reader = ArcReader::start(saved.arcs, reading);
-        let inner = reader.next_inner(shelf)?;
-        let end = reader.next_end(shelf)?;
-        let tables = [table_of(from, 0), table_of(from, 1), table_of(from, 2)];
-        Ok(ReduceSweep {
-            place,
-            ahead: Ahead {
-                reader,
-                inner,
-                end,
-                queue: LevelQueue::thaw(from.step, &tables, saved.last_arc(), queue),
-            },
-            lists: Lists {
-                rows: Sorter::thaw(from.step, &table_of(from, 3), rows),
-                names: Sorter::thaw(from.step, &table_of(from, 4), names),
-            },
-            writer,
-            parts: Parts {
-                step: from.step,
-                next: from.next_part,
-            },
-        })
-    }
-
-    ghost stays = { stays };
-
-    ghost apart = { apart };
 }

@@ -4,7 +4,7 @@ use crate::phase::{Numbered, Phase};
 use crate::reduce::ReduceSweep;
 use crate::source::Source;
 use shelf_model::{Shelf, SortFault};
-use sweep_core::{Sweep, Turn};
+use sweep_core::Turn;
 
 impl<'r> ReduceSweep<'r> {
     ghost use Rattle.std.specs.Prelude.{◌≡◌, [], IsTrue, OnOk, IfOk, IfErr};
@@ -181,44 +181,5 @@ impl<'r> ReduceSweep<'r> {
         let count = self.writer.end(self.place.known, shelf)?;
         self.place.phase = Phase::Ended(count);
         Ok(())
-    }
-}
-
-impl<'r> Sweep<'r> for ReduceSweep<'r> {
-    ghost use Rattle.reduce_sweep.specs.Remaining.{Diagram, RemainsOf};
-    ghost use Rattle.reduce_sweep.specs.Sweeps.{Task, task_of, accounts, turns_left, IsSound};
-    ghost use Rattle.reduce_sweep.specs.Damage.{IsDamage};
-    ghost use Rattle.reduce_sweep.specs.Calls.{IsInStep, HasLists};
-    ghost use Rattle.reduce_sweep.specs.RemainingLaws.{lists_remain};
-    ghost use Rattle.reduce_sweep.specs.Resumes.{reduce_saving};
-
-    ghost Job = { Diagram };
-
-    ghost remains = { RemainsOf };
-
-    ghost fuel = { turns_left };
-
-    ghost left = { λ s world d. turns_left s };
-
-    ghost accounts = { accounts };
-
-    ghost damaged = { IsDamage };
-
-    ghost Task = { Task };
-
-    ghost task = { task_of };
-
-    ghost saving = { reduce_saving };
-
-    ghost ready = { IsSound };
-
-    ghost in_step = { IsInStep };
-
-    ghost trusts = { HasLists };
-
-    ghost trusted = { lists_remain };
-
-    fn turn<S: Shelf>(&mut self, shelf: &mut S) -> Result<Turn, SortFault> {
-        ReduceSweep::turn(self, shelf)
     }
 }

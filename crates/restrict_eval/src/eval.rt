@@ -8,8 +8,9 @@ use node_file::laws::canonical_files_are_read;
 use node_reading::next_node;
 use rec_words::{NODE_SIZE, Node, Ptr, Rec};
 use run_merge::Parts;
+use saved_words::words_of;
 use shelf_model::{FileNo, Shelf, SortFault};
-use sweep_core::{Sweep, Turn};
+use sweep_core::{Checkpoint, Sweep, Turn, fill_without_runs};
 
 /// The evaluation of a diagram: its path is followed from the root on, in one reading of the file.
 ///
@@ -237,7 +238,7 @@ fn level_at(node: &Node) -> usize
 }
 
 impl<'r> Sweep<'r> for EvalSweep<'r> {
-    ghost use Rattle.restrict_eval.specs.EvalResumes.{eval_saving};
+    ghost use Rattle.restrict_eval.specs.EvalResumes.{eval_saving, Blames, stays, apart};
     ghost use Rattle.restrict_eval.specs.Eval.{accounts, turns_left, Evaluated, task_of, IsReady, IsInStep, HasCome, OneTable, RemainsOf, IsDamage};
 
     ghost Job = { OneTable };
@@ -251,6 +252,8 @@ impl<'r> Sweep<'r> for EvalSweep<'r> {
     ghost accounts = { accounts };
 
     ghost damaged = { IsDamage };
+
+    ghost blames = { Blames };
 
     ghost Task = { Evaluated };
 
@@ -269,4 +272,22 @@ impl<'r> Sweep<'r> for EvalSweep<'r> {
     fn turn<S: Shelf>(&mut self, shelf: &mut S) -> Result<Turn, SortFault> {
         EvalSweep::turn(self, shelf)
     }
+
+    fn carry<S: Shelf>(&mut self, shelf: &mut S, into: &mut Checkpoint) -> Result<(), SortFault> {
+        fill_without_runs(into, self.parts.next, words_of(self.saved()));
+        Ok(())
+    }
+
+    fn rebuild<S: Shelf>(
+        from: &Checkpoint,
+        text: &'r [u8],
+        room: &'r mut [Rec],
+        shelf: &mut S,
+    ) -> Result<EvalSweep<'r>, SortFault> {
+        EvalSweep::rebuild(from, text, room, shelf)
+    }
+
+    ghost stays = { stays };
+
+    ghost apart = { apart };
 }

@@ -1,4 +1,4 @@
-//! An evaluation that is saved between two turns, and goes on from there.
+//! What a checkpoint keeps of an evaluation, and how that goes on from it.
 ghost use Rattle.std.specs.Prelude.{◌≡◌, ◌≢◌, ◌↔◌, ℕ, ◌+◌, ◌^◌, ◌≤◌, IsTrue, OnOk, IfOk, IfErr, length};
 ghost use Rattle.shelf_model.specs.declared.file_no.FileNo.{FileNo};
 ghost use Rattle.shelf_model.specs.Calls.{Told};
@@ -19,9 +19,9 @@ use file_numbers::{INNER_PART, checkpoint_file};
 use node_reading::Unread;
 use rec_words::{NODE_SIZE, Rec};
 use run_merge::Parts;
-use saved_words::{value_of, words_of};
+use saved_words::value_of;
 use shelf_model::{FileNo, LONGEST, Shelf, SortFault};
-use sweep_core::{Checkpoint, Resume, checkpoint_place, fill_without_runs, is_read_part};
+use sweep_core::{Checkpoint, checkpoint_place, is_read_part};
 
 impl<'r> EvalSweep<'r> {
     /// Whether a checkpoint keeps the rules of an evaluation's that reads that text. It takes no memory.
@@ -46,7 +46,7 @@ impl<'r> EvalSweep<'r> {
     }
 
     // What a checkpoint keeps of it.
-    fn saved(&self) -> SavedEval
+    pub(crate) fn saved(&self) -> SavedEval
         ensures { result ≡ saved_of self.now }
     {
         let (pointer, passed, answer) = match self.state {
@@ -67,7 +67,7 @@ impl<'r> EvalSweep<'r> {
         }
     }
 
-    /// The evaluation that goes on from a checkpoint, as `Resume::rebuild` says, at the bits of that text.
+    /// The evaluation that goes on from a checkpoint, as `Sweep::rebuild` says, at the bits of that text.
     pub fn rebuild<S: Shelf>(
         from: &Checkpoint,
         text: &'r [u8],
@@ -168,28 +168,4 @@ fn passes_some<S: Shelf>(
         file: checkpoint_file(step),
         at,
     })
-}
-
-impl<'r> Resume<'r> for EvalSweep<'r> {
-    ghost use Rattle.restrict_eval.specs.EvalResumes.{Blames, stays, apart};
-
-    ghost blames = { Blames };
-
-    fn carry<S: Shelf>(&mut self, shelf: &mut S, into: &mut Checkpoint) -> Result<(), SortFault> {
-        fill_without_runs(into, self.parts.next, words_of(self.saved()));
-        Ok(())
-    }
-
-    fn rebuild<S: Shelf>(
-        from: &Checkpoint,
-        text: &'r [u8],
-        room: &'r mut [Rec],
-        shelf: &mut S,
-    ) -> Result<EvalSweep<'r>, SortFault> {
-        EvalSweep::rebuild(from, text, room, shelf)
-    }
-
-    ghost stays = { stays };
-
-    ghost apart = { apart };
 }

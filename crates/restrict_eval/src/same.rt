@@ -1,15 +1,18 @@
 //! Whether two diagrams stand for the same table.
 use crate::comparing::Comparing;
+use crate::resuming::begin_at;
+use crate::saved::SavedSame;
 use node_file::NodeReader;
 use node_file::laws::canonical_files_are_read;
 use node_reading::next_node;
 use rec_words::{Node, Rec};
 use run_merge::Parts;
+use saved_words::{value_of, words_of};
 use shelf_model::{FileNo, Shelf, SortFault};
-use sweep_core::{Sweep, Turn};
+use sweep_core::{Checkpoint, Sweep, Turn, fill_without_runs};
 
 /// How many records of the room each of the two readers has.
-pub(crate) const READING: usize = 88;
+const READING: usize = 88;
 
 /// The comparison of two node files, node by node from the roots on.
 ///
@@ -171,7 +174,7 @@ impl<'r> SameSweep<'r> {
 }
 
 impl<'r> Sweep<'r> for SameSweep<'r> {
-    ghost use Rattle.restrict_eval.specs.SameResumes.{same_saving};
+    ghost use Rattle.restrict_eval.specs.SameResumes.{same_saving, Blames, stays, apart};
     ghost use Rattle.restrict_eval.specs.Same.{accounts, turns_left, Compared, task_of, IsReady, IsInStep, Tables, RemainsOf, IsDamage};
 
     ghost Job = { Tables };
@@ -185,6 +188,8 @@ impl<'r> Sweep<'r> for SameSweep<'r> {
     ghost accounts = { accounts };
 
     ghost damaged = { IsDamage };
+
+    ghost blames = { Blames };
 
     ghost Task = { Compared };
 
@@ -203,4 +208,38 @@ impl<'r> Sweep<'r> for SameSweep<'r> {
     fn turn<S: Shelf>(&mut self, shelf: &mut S) -> Result<Turn, SortFault> {
         SameSweep::turn(self, shelf)
     }
+
+    fn carry<S: Shelf>(&mut self, shelf: &mut S, into: &mut Checkpoint) -> Result<(), SortFault> {
+        fill_without_runs(into, self.parts.next, words_of(self.saved()));
+        Ok(())
+    }
+
+    fn rebuild<S: Shelf>(
+        from: &Checkpoint,
+        text: &'r [u8],
+        room: &'r mut [Rec],
+        shelf: &mut S,
+    ) -> Result<SameSweep<'r>, SortFault> {
+        let Some(saved) = value_of::<SavedSame>(&from.carry) else {
+            unreachable!();
+        };
+        let (first, rest) = room.split_at_mut(READING);
+        let (second, _rest) = rest.split_at_mut(READING);
+        let mut left = begin_at(saved.behind_hand(), saved.n, from.step, first, shelf)?;
+        let right = begin_at(saved.right, saved.n, from.step, second, shelf)?;
+        let state = saved.state(&mut left, shelf)?;
+        Ok(SameSweep {
+            left,
+            right,
+            state,
+            parts: Parts {
+                step: from.step,
+                next: from.next_part,
+            },
+        })
+    }
+
+    ghost stays = { stays };
+
+    ghost apart = { apart };
 }

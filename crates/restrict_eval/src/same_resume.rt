@@ -1,4 +1,4 @@
-//! A comparison that is saved between two turns, and goes on from there.
+//! What a checkpoint keeps of a comparison, and how that goes on from it.
 ghost use Rattle.std.specs.Prelude.{◌≡◌, ◌≢◌, ◌↔◌, ◌+◌, ◌*◌, ◌<◌, ◌≤◌, ℕ, Bool, IsTrue, List, OnOk, IfOk, IfErr};
 ghost use Rattle.shelf_model.specs.Calls.{Told, longest};
 ghost use Rattle.shelf_model.specs.Moments.{Ran, Stays};
@@ -15,17 +15,14 @@ ghost use Rattle.rec_words.specs.declared.node.Node.{Node};
 
 use crate::SameSweep;
 use crate::comparing::Comparing;
-use crate::resuming::begin_at;
-use crate::same::READING;
 use crate::saved::SavedSame;
 use file_numbers::INNER_PART;
 use node_file::NodeReader;
 use node_reading::{Unread, next_node};
-use rec_words::{NODE_SIZE, Rec};
-use run_merge::Parts;
-use saved_words::{value_of, words_of};
+use rec_words::NODE_SIZE;
+use saved_words::value_of;
 use shelf_model::{FileNo, LONGEST, Shelf, SortFault};
-use sweep_core::{Checkpoint, Resume, fill_without_runs, is_read_part};
+use sweep_core::{Checkpoint, is_read_part};
 
 impl<'r> SameSweep<'r> {
     /// Whether a checkpoint keeps the rules of a comparison's. It takes no memory.
@@ -49,7 +46,7 @@ impl<'r> SameSweep<'r> {
     }
 
     // What a checkpoint keeps of it.
-    fn saved(&self) -> SavedSame
+    pub(crate) fn saved(&self) -> SavedSame
         ensures { result ≡ saved_of self.now }
     {
         let (ahead, answer) = match self.state {
@@ -86,7 +83,7 @@ impl SavedSame {
     }
 
     // The first file, from before the node at hand.
-    fn behind_hand(&self) -> Unread
+    pub(crate) fn behind_hand(&self) -> Unread
         requires few { self.now.left.place * node_size ≤ longest }
         ensures { result ≡ behind_hand self.now }
     {
@@ -97,7 +94,7 @@ impl SavedSame {
     }
 
     // Where it goes on: with the node at hand, which the first file gives again, or with the answer.
-    fn state<S: Shelf>(
+    pub(crate) fn state<S: Shelf>(
         &self,
         left: &mut NodeReader<'_>,
         shelf: &mut S,
@@ -135,44 +132,4 @@ impl SavedSame {
         };
         Ok(Comparing::Ahead(node))
     }
-}
-
-impl<'r> Resume<'r> for SameSweep<'r> {
-    ghost use Rattle.restrict_eval.specs.SameResumes.{Blames, stays, apart};
-
-    ghost blames = { Blames };
-
-    fn carry<S: Shelf>(&mut self, shelf: &mut S, into: &mut Checkpoint) -> Result<(), SortFault> {
-        fill_without_runs(into, self.parts.next, words_of(self.saved()));
-        Ok(())
-    }
-
-    fn rebuild<S: Shelf>(
-        from: &Checkpoint,
-        text: &'r [u8],
-        room: &'r mut [Rec],
-        shelf: &mut S,
-    ) -> Result<SameSweep<'r>, SortFault> {
-        let Some(saved) = value_of::<SavedSame>(&from.carry) else {
-            unreachable!();
-        };
-        let (first, rest) = room.split_at_mut(READING);
-        let (second, _rest) = rest.split_at_mut(READING);
-        let mut left = begin_at(saved.behind_hand(), saved.n, from.step, first, shelf)?;
-        let right = begin_at(saved.right, saved.n, from.step, second, shelf)?;
-        let state = saved.state(&mut left, shelf)?;
-        Ok(SameSweep {
-            left,
-            right,
-            state,
-            parts: Parts {
-                step: from.step,
-                next: from.next_part,
-            },
-        })
-    }
-
-    ghost stays = { stays };
-
-    ghost apart = { apart };
 }

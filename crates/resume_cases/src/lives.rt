@@ -12,7 +12,7 @@ use run_tiers::{Parts, Run};
 use shelf_memory::Bench;
 use shelf_model::{FileNo, SortFault};
 use sweep_checkpoint::{Going, load, run_saved, save};
-use sweep_core::{Checkpoint, Made, Resume, Turn, run_some};
+use sweep_core::{Checkpoint, Made, Sweep, Turn, run_some};
 
 /// The step whose sweeps these are.
 pub(crate) const STEP: u32 = 7;
@@ -93,7 +93,7 @@ pub(crate) fn unfilled(going: &Going) -> Checkpoint
 }
 
 /// Makes turns of a sweep, at most so many, which are counted.
-pub(crate) fn make_some<'r, P: Resume<'r>>(
+pub(crate) fn make_some<'r, P: Sweep<'r>>(
     sweep: &mut P,
     most: u64,
     going: &mut Going,
@@ -118,7 +118,7 @@ pub(crate) fn make_some<'r, P: Resume<'r>>(
 }
 
 // Makes the turns of a life. A sweep that has ended isn't saved.
-fn live<'r, P: Resume<'r>>(
+fn live<'r, P: Sweep<'r>>(
     sweep: &mut P,
     way: Way,
     going: &mut Going,

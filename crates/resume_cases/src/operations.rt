@@ -13,7 +13,7 @@ use shelf_model::{FileNo, SortFault};
 use std::alloc::Global;
 use std::test::Fail;
 use sweep_checkpoint::{load, save};
-use sweep_core::{Resume, Turn};
+use sweep_core::{Sweep, Turn};
 use top_down_sweep::{
     Choice as IfThenElse, Files, Operation, Product, Quantified, Restricted, StepOperation,
     TopDownSweep,
@@ -59,7 +59,7 @@ fn folder(alloc: Global) -> Result<Bench, Fail> {
 
 // Makes turns of a sweep, at most so many, and saves it where it hasn't ended. The turns of the step are answered with
 // the last one.
-fn live<'r, P: Resume<'r>>(
+fn live<'r, P: Sweep<'r>>(
     sweep: &mut P,
     before: u64,
     most: u64,

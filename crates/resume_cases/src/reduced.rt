@@ -17,7 +17,7 @@ use shelf_model::FileNo;
 use std::alloc::Global;
 use std::test::Fail;
 use sweep_checkpoint::{load, save};
-use sweep_core::{Checkpoint, Resume, Turn, run_some};
+use sweep_core::{Checkpoint, Sweep, Turn, run_some};
 
 const INNER: FileNo = FileNo { step: 7, part: 3 };
 

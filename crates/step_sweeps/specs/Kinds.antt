@@ -4,6 +4,7 @@ use Rattle.sweep_core.specs.declared.sweep.Sweep as sweep
 use Rattle.copy_sweep.specs.declared.copy.CopySweep.{CopySweep}
 use Rattle.copy_sweep.specs.declared.copy.CopyTask.{CopyTask}
 use Rattle.copy_sweep.specs.Copies as copies
+use Rattle.copy_sweep.specs.Resumes as saved_copies
 use Rattle.copy_sweep.specs.Resumes.{copy_saving}
 use Rattle.top_down_sweep.specs.declared.steps.StepOperation.{StepOperation}
 use Rattle.top_down_sweep.specs.Beginning as top_down
@@ -12,6 +13,7 @@ use Rattle.top_down_sweep.specs.Damage as arcs
 use Rattle.top_down_sweep.specs.Fuel.{fuel_of}
 use Rattle.top_down_sweep.specs.Making.{accounts_along}
 use Rattle.top_down_sweep.specs.Operations.{rule_of, begins_of}
+use Rattle.top_down_sweep.specs.Resumes as saved_arcs
 use Rattle.top_down_sweep.specs.Resumes.{top_saving}
 use Rattle.top_down_sweep.specs.Sweeps.{SweepTask, whole_task, accounts}
 use Rattle.top_down_sweep.specs.Trusting.{sweep_trusted}
@@ -24,6 +26,7 @@ use Rattle.reduce_sweep.specs.Calls as reductions
 use Rattle.reduce_sweep.specs.Damage.{IsDamage}
 use Rattle.reduce_sweep.specs.Remaining.{Diagram, RemainsOf}
 use Rattle.reduce_sweep.specs.RemainingLaws.{lists_remain}
+use Rattle.reduce_sweep.specs.Resumes as saved_reductions
 use Rattle.reduce_sweep.specs.Resumes.{reduce_saving}
 use Rattle.reduce_sweep.specs.Sweeps as reduce
 use Rattle.resumable.specs.Diagrams.{step_words}
@@ -36,6 +39,7 @@ copy_kind = record {
   left = λ s world bytes. copies.left_of s;
   accounts = copies.accounts;
   damaged = λ s world e. copies.IsFailure e;
+  blames = saved_copies.Blames;
   Task = CopyTask;
   task = λ s. s.task;
   saving = copy_saving;
@@ -53,6 +57,7 @@ arcs_kind = record {
   left = λ s world job. turns_of (sweep_of s) world job;
   accounts = accounts_along sweep_of (accounts StepOperation);
   damaged = λ s world e. arcs.IsDamage rule_of begins_of (sweep_of s) world e;
+  blames = saved_arcs.Blames step_words;
   Task = SweepTask × StepOperation;
   task = λ s. whole_task (sweep_of s);
   saving = table_saving (top_saving step_words rule_of begins_of);
@@ -70,6 +75,7 @@ reduce_kind = record {
   left = λ s world d. reduce.turns_left s;
   accounts = reduce.accounts;
   damaged = IsDamage;
+  blames = saved_reductions.Blames;
   Task = reduce.Task;
   task = reduce.task_of;
   saving = reduce_saving;

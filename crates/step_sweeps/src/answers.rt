@@ -15,7 +15,7 @@ use restrict_eval::{EvalSweep, SameSweep};
 use run_merge::Parts;
 use shelf_model::{FileNo, Shelf, SortFault};
 use sweep_checkpoint::{Going, run_saved};
-use sweep_core::{Checkpoint, Resume, Sweep};
+use sweep_core::{Checkpoint, Sweep};
 
 /// What a step answers, the turns that it took in all its lives, as many as 64 bits count, and the next part number of
 /// its step.

@@ -24,7 +24,7 @@ use rec_words::Rec;
 use run_merge::Parts;
 use shelf_model::{Shelf, SortFault};
 use sweep_checkpoint::{Going, run_saved};
-use sweep_core::{Checkpoint, Resume};
+use sweep_core::{Checkpoint, Sweep};
 use table_work::TableSweep;
 use top_down_sweep::{Files, TopDownSweep};
 

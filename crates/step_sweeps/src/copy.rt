@@ -25,7 +25,7 @@ use rec_words::{NODE_SIZE, Rec};
 use run_merge::Parts;
 use shelf_model::{FileNo, Shelf, SortFault};
 use sweep_checkpoint::{Going, run_saved};
-use sweep_core::{Checkpoint, Resume};
+use sweep_core::{Checkpoint, Sweep};
 
 /// Makes the step's node file a copy of an operand's, of which each turn copies a piece, and one syncs them.
 pub(crate) fn copy_in_turns<S: Shelf>(

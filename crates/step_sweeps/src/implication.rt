@@ -17,7 +17,7 @@ use rec_words::Rec;
 use run_merge::Parts;
 use shelf_model::{FileNo, Shelf, SortFault};
 use sweep_checkpoint::{Going, run_saved};
-use sweep_core::{Checkpoint, Resume, Sweep};
+use sweep_core::{Checkpoint, Sweep};
 use top_down_sweep::{Files, OperandFiles, Product, TopDownSweep};
 
 /// Whether the left function implies the right one everywhere, of the files of two diagrams of `n` variables: the arcs

@@ -22,7 +22,7 @@ use rec_words::Rec;
 use reduce_sweep::ReduceSweep;
 use shelf_model::{Shelf, SortFault};
 use sweep_checkpoint::{Going, run_saved};
-use sweep_core::{Checkpoint, Resume};
+use sweep_core::{Checkpoint, Sweep};
 
 /// How many part numbers a step has.
 pub(crate) const PARTS: u64 = 1 << 32;

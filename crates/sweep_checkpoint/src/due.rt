@@ -20,7 +20,7 @@ use crate::going::Going;
 use crate::retiring::retire;
 use crate::saving::save;
 use shelf_model::{Shelf, SortFault};
-use sweep_core::{Checkpoint, Resume};
+use sweep_core::{Checkpoint, Sweep};
 
 /// From so many turns on a step isn't saved any more.
 const TURNS_END: u64 = 1 << 61;
@@ -32,7 +32,7 @@ const MOST_PARTS: u64 = 1 << 32;
 /// the turns that no checkpoint shows are as many as an interval or more, while those of the step are below 2^61.
 ///
 /// A refusal is one of the sweep's own or of the folder, or more part numbers were taken than a checkpoint may say.
-pub(crate) fn save_if_due<'r, P: Resume<'r>, S: Shelf>(
+pub(crate) fn save_if_due<'r, P: Sweep<'r>, S: Shelf>(
     sweep: &mut P,
     going: &mut Going,
     shelf: &mut S,

@@ -17,7 +17,7 @@ ghost use Rattle.sweep_checkpoint.specs.Going.{IsOfGoing, IsLeftAlone, IsAsBefor
 use crate::due::save_if_due;
 use crate::going::Going;
 use shelf_model::{Shelf, SortFault};
-use sweep_core::{Resume, Turn, run_some};
+use sweep_core::{Sweep, Turn, run_some};
 
 /// Makes turns of a sweep until it ends, and saves it before the first turn that has min(budget, 65,536) turns or more
 /// behind it that no checkpoint shows, while the turns of its step are below 2^61. One that was rebuilt may have ended:
@@ -26,7 +26,7 @@ use sweep_core::{Resume, Turn, run_some};
 /// At each moment the last checkpoint that is gated, and all that it rests on, stands whole in each image that a stop
 /// may leave: the one that was there before, or one of this sweep. What a turn, a save or the folder refuses is handed
 /// on as it is; after it neither is used again.
-pub fn run_saved<'r, P: Resume<'r>, S: Shelf>(
+pub fn run_saved<'r, P: Sweep<'r>, S: Shelf>(
     sweep: &mut P,
     going: &mut Going,
     shelf: &mut S,

@@ -5,7 +5,6 @@ mod checkpoint;
 mod driver;
 mod fill;
 mod place;
-mod resume;
 mod sweep;
 mod turn;
 
@@ -13,6 +12,5 @@ pub use checkpoint::Checkpoint;
 pub use driver::{Made, drive, run_some, run_to_end};
 pub use fill::{fill_with_runs, fill_without_runs};
 pub use place::{checkpoint_place, is_made_part, is_read_part};
-pub use resume::Resume;
 pub use sweep::Sweep;
 pub use turn::Turn;

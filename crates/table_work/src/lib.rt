@@ -4,7 +4,6 @@
 
 pub mod laws;
 mod operation;
-mod resume;
 mod starts;
 mod sweep;
 

@@ -5,7 +5,7 @@ use arc_file::Unreduced;
 use rec_words::Rec;
 use run_merge::Parts;
 use shelf_model::{Shelf, SortFault};
-use sweep_core::{Sweep, Turn};
+use sweep_core::{Checkpoint, Sweep, Turn};
 use top_down_sweep::{OperandFiles, Operation, TopDownSweep};
 
 /// An operation of a step on up to three diagrams, level by level from the roots down. It makes the arcs of a diagram
@@ -75,11 +75,12 @@ impl<'r, O: Operation> Sweep<'r> for TableSweep<'r, O> {
     ghost use Rattle.top_down_sweep.specs.Damage.{IsDamage};
     ghost use Rattle.top_down_sweep.specs.Fuel.{fuel_of};
     ghost use Rattle.top_down_sweep.specs.Making.{accounts_along};
-    ghost use Rattle.top_down_sweep.specs.Resumes.{top_saving};
+    ghost use Rattle.top_down_sweep.specs.Resumes.{Blames, top_saving};
+    ghost use Rattle.top_down_sweep.specs.ResumeLaws.{stays, apart};
     ghost use Rattle.top_down_sweep.specs.Sweeps.{SweepTask, whole_task, accounts};
     ghost use Rattle.top_down_sweep.specs.Trusting.{sweep_trusted};
     ghost use Rattle.table_work.specs.Jobs.{TableWork, MakesWithin, turns_of};
-    ghost use Rattle.table_work.specs.TableSaving.{table_saving};
+    ghost use Rattle.table_work.specs.TableSaving.{table_saving, table_stays};
     ghost use Rattle.table_work.specs.Tables.{sweep_of};
 
     ghost Job = { TableWork };
@@ -93,6 +94,8 @@ impl<'r, O: Operation> Sweep<'r> for TableSweep<'r, O> {
     ghost accounts = { accounts_along sweep_of (accounts O) };
 
     ghost damaged = { λ s world e. IsDamage O.rule O.begins (sweep_of s) world e };
+
+    ghost blames = { Blames O.Carried };
 
     ghost Task = { SweepTask × O };
 
@@ -112,4 +115,22 @@ impl<'r, O: Operation> Sweep<'r> for TableSweep<'r, O> {
     fn turn<S: Shelf>(&mut self, shelf: &mut S) -> Result<Turn, SortFault> {
         TopDownSweep::turn(&mut self.sweep, shelf)
     }
+
+    fn carry<S: Shelf>(&mut self, shelf: &mut S, into: &mut Checkpoint) -> Result<(), SortFault> {
+        self.sweep.carry(shelf, into)
+    }
+
+    fn rebuild<S: Shelf>(
+        from: &Checkpoint,
+        text: &'r [u8],
+        room: &'r mut [Rec],
+        shelf: &mut S,
+    ) -> Result<TableSweep<'r, O>, SortFault> {
+        let sweep = TopDownSweep::rebuild(from, text, room, shelf)?;
+        Ok(TableSweep { sweep })
+    }
+
+    ghost stays = { table_stays (top_saving O.Carried.own O.rule O.begins) (stays O.Carried.own O.rule O.begins) };
+
+    ghost apart = { apart O.Carried.own };
 }

@@ -1,12 +1,9 @@
-//! A sweep that is saved between two turns, and goes on from there.
-use crate::machine::Machine;
+//! What a checkpoint of a sweep names, and whether it keeps the rules.
 use crate::rules::has_queue;
 use crate::saved::SavedMachine;
 use crate::{Files, Operation, TopDownSweep};
-use rec_words::Rec;
-use saved_words::{value_of, words_of};
-use shelf_model::{Shelf, SortFault};
-use sweep_core::{Checkpoint, Resume, fill_with_runs};
+use saved_words::value_of;
+use sweep_core::Checkpoint;
 
 /// What a checkpoint of a sweep names: the operation, of how many variables the diagrams are, and the files.
 #[derive(Clone, Copy, Debug, PartialEq, Eq)]
@@ -52,36 +49,4 @@ impl<'r, O: Operation> TopDownSweep<'r, O> {
             None => false,
         }
     }
-}
-
-impl<'r, O: Operation> Resume<'r> for TopDownSweep<'r, O> {
-    ghost use Rattle.top_down_sweep.specs.Resumes.{Blames};
-    ghost use Rattle.top_down_sweep.specs.ResumeLaws.{stays, apart};
-
-    ghost blames = { Blames O.Carried };
-
-    fn carry<S: Shelf>(&mut self, shelf: &mut S, into: &mut Checkpoint) -> Result<(), SortFault> {
-        let frozen = self.machine.freeze(shelf)?;
-        let saved = self.machine.saved(&frozen.made);
-        let words = words_of((saved, self.operation));
-        fill_with_runs(into, self.machine.parts.next, words, &frozen.tables);
-        Ok(())
-    }
-
-    fn rebuild<S: Shelf>(
-        from: &Checkpoint,
-        text: &'r [u8],
-        room: &'r mut [Rec],
-        shelf: &mut S,
-    ) -> Result<TopDownSweep<'r, O>, SortFault> {
-        let Some((saved, operation)) = value_of::<(SavedMachine, O)>(&from.carry) else {
-            unreachable!();
-        };
-        let machine = Machine::rebuild(&saved, from, room, shelf)?;
-        Ok(TopDownSweep { operation, machine })
-    }
-
-    ghost stays = { stays O.Carried.own O.rule O.begins };
-
-    ghost apart = { apart O.Carried.own };
 }

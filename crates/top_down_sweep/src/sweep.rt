@@ -2,11 +2,13 @@
 use crate::Operation;
 use crate::machine::Machine;
 use crate::place::Phase;
+use crate::saved::SavedMachine;
 use arc_file::Unreduced;
-use rec_words::Ptr;
+use rec_words::{Ptr, Rec};
 use run_merge::Parts;
+use saved_words::{value_of, words_of};
 use shelf_model::{Shelf, SortFault};
-use sweep_core::{Sweep, Turn};
+use sweep_core::{Checkpoint, Sweep, Turn, fill_with_runs};
 
 /// An operation on diagrams, level by level from the root down. It makes the arcs of a diagram that isn't reduced.
 ///
@@ -155,7 +157,8 @@ impl<'r, O: Operation> TopDownSweep<'r, O> {
 
 impl<'r, O: Operation> Sweep<'r> for TopDownSweep<'r, O> {
     ghost use Rattle.top_down_sweep.specs.Trusting.{sweep_trusted};
-    ghost use Rattle.top_down_sweep.specs.Resumes.{top_saving};
+    ghost use Rattle.top_down_sweep.specs.Resumes.{top_saving, Blames};
+    ghost use Rattle.top_down_sweep.specs.ResumeLaws.{stays, apart};
     ghost use Rattle.top_down_sweep.specs.Meaning.{Remains};
     ghost use Rattle.top_down_sweep.specs.Turns.{Work, left_of};
     ghost use Rattle.top_down_sweep.specs.Sweeps.{SweepTask, whole_task, accounts, IsSound};
@@ -175,6 +178,8 @@ impl<'r, O: Operation> Sweep<'r> for TopDownSweep<'r, O> {
 
     ghost damaged = { IsDamage O.rule O.begins };
 
+    ghost blames = { Blames O.Carried };
+
     ghost Task = { SweepTask × O };
 
     ghost task = { whole_task };
@@ -192,4 +197,29 @@ impl<'r, O: Operation> Sweep<'r> for TopDownSweep<'r, O> {
     fn turn<S: Shelf>(&mut self, shelf: &mut S) -> Result<Turn, SortFault> {
         TopDownSweep::turn(self, shelf)
     }
+
+    fn carry<S: Shelf>(&mut self, shelf: &mut S, into: &mut Checkpoint) -> Result<(), SortFault> {
+        let frozen = self.machine.freeze(shelf)?;
+        let saved = self.machine.saved(&frozen.made);
+        let words = words_of((saved, self.operation));
+        fill_with_runs(into, self.machine.parts.next, words, &frozen.tables);
+        Ok(())
+    }
+
+    fn rebuild<S: Shelf>(
+        from: &Checkpoint,
+        text: &'r [u8],
+        room: &'r mut [Rec],
+        shelf: &mut S,
+    ) -> Result<TopDownSweep<'r, O>, SortFault> {
+        let Some((saved, operation)) = value_of::<(SavedMachine, O)>(&from.carry) else {
+            unreachable!();
+        };
+        let machine = Machine::rebuild(&saved, from, room, shelf)?;
+        Ok(TopDownSweep { operation, machine })
+    }
+
+    ghost stays = { stays O.Carried.own O.rule O.begins };
+
+    ghost apart = { apart O.Carried.own };
 }

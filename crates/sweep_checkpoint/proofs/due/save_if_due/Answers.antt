@@ -64,7 +64,7 @@ module _ (g : given.Over) where
       → Throughout (g.S.Shelf.world c.args.shelf.now) (g.S.Shelf.world c.args.shelf.now) (Left c.args.sweep.now c.args.going.now c.args.shelf.now job)
   none_images c told job =
       let claim : g.claim c.lifetimes = search rules in
-      let laws = g.met.P.Resume c.lifetimes claim in
+      let laws = g.met.P.Sweep c.lifetimes claim in
       let sweep = c.args.sweep.now in
       let going = c.args.going.now in
       images_none g.P.Sweep.saving laws.stays laws.apart (g.P.Sweep.accounts.makes sweep) (g.P.Sweep.saving.operands (g.P.Sweep.task sweep)) going.step (g.P.Sweep.accounts.next sweep)
@@ -80,7 +80,7 @@ module _ (g : given.Over) where
       → Throughout (g.S.Shelf.world c.args.shelf.now) (g.S.Shelf.world c.carry.new.shelf) (Left c.args.sweep.now c.args.going.now c.args.shelf.now job)
   carry_images c told job =
       let claim : g.claim c.lifetimes = search rules in
-      let laws = g.met.P.Resume c.lifetimes claim in
+      let laws = g.met.P.Sweep c.lifetimes claim in
       let turns = turns_needed c.args.sweep.now c.args.going.now c.args.shelf.now job in
       left_at g.P.Sweep.saving (g.P.Sweep.accounts.makes c.args.sweep.now) c.carry.new.into.step c.args.going.now.step (g.P.Sweep.accounts.next c.args.sweep.now) c.args.going.now.sweep
       (g.P.Sweep.task c.args.sweep.now) job turns
@@ -96,7 +96,7 @@ module _ (g : given.Over) where
       (g.P.Sweep.left c.carry.new.self (g.S.Shelf.world c.carry.new.shelf) job) (now (g.S.Shelf.world c.carry.new.shelf)).folder
   ready c told job remains sure paid =
       let claim : g.claim c.lifetimes = search rules in
-      let laws = g.met.P.Resume c.lifetimes claim in
+      let laws = g.met.P.Sweep c.lifetimes claim in
       let fill = c.in_ok-carry.ensures in
       let head = fill.head in
       let few : c.args.going.now.turns < 2 ^ 61 = omega (arith, c.if-going-ge-TURNS_END.false) in
@@ -120,7 +120,7 @@ module _ (g : given.Over) where
       → Throughout (g.S.Shelf.world c.args.shelf.now) (g.S.Shelf.world c.save.new.shelf) (Left c.args.sweep.now c.args.going.now c.args.shelf.now job)
   save_images c told job remains sure paid =
       let claim : g.claim c.lifetimes = search rules in
-      let laws = g.met.P.Resume c.lifetimes claim in
+      let laws = g.met.P.Sweep c.lifetimes claim in
       let turns = turns_needed c.args.sweep.now c.args.going.now c.args.shelf.now job in
       let left = g.P.Sweep.left c.carry.new.self (g.S.Shelf.world c.carry.new.shelf) job in
       let step_is = c.carry.ensures.head.step_is in
@@ -144,7 +144,7 @@ module _ (g : given.Over) where
       → Throughout (g.S.Shelf.world c.args.shelf.now) (g.S.Shelf.world c.retire.new.shelf) (Left c.args.sweep.now c.args.going.now c.args.shelf.now job)
   retire_images c told job remains sure paid =
       let claim : g.claim c.lifetimes = search rules in
-      let laws = g.met.P.Resume c.lifetimes claim in
+      let laws = g.met.P.Sweep c.lifetimes claim in
       let turns = turns_needed c.args.sweep.now c.args.going.now c.args.shelf.now job in
       let left = g.P.Sweep.left c.carry.new.self (g.S.Shelf.world c.carry.new.shelf) job in
       let step_is = c.carry.ensures.head.step_is in
@@ -163,7 +163,7 @@ module _ (g : given.Over) where
       c.args.going.now.sweep (g.P.Sweep.task c.args.sweep.now) job (turns_needed c.args.sweep.now c.args.going.now c.args.shelf.now job) (now (g.S.Shelf.world c.retire.new.shelf)).folder
   retire_stands c told job remains sure paid =
       let claim : g.claim c.lifetimes = search rules in
-      let laws = g.met.P.Resume c.lifetimes claim in
+      let laws = g.met.P.Sweep c.lifetimes claim in
       let turns = turns_needed c.args.sweep.now c.args.going.now c.args.shelf.now job in
       subst (λ s. Stands g.P.Sweep.saving (g.P.Sweep.accounts.makes c.args.sweep.now) (g.P.Sweep.saving.operands (g.P.Sweep.task c.args.sweep.now)) s (g.P.Sweep.accounts.next c.carry.new.self)
       c.args.going.now.sweep (g.P.Sweep.task c.args.sweep.now) job turns (now (g.S.Shelf.world c.retire.new.shelf)).folder) c.carry.ensures.head.step_is

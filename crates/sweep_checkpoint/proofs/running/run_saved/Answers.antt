@@ -122,7 +122,7 @@ module _ (g : given.Over) where
       → Throughout (g.S.Shelf.world c.args.shelf.now) (g.S.Shelf.world c.save_if_due.new.shelf) (Left c.args.sweep.now c.args.going.now c.args.shelf.now job)
   save_images c told job remains sure paid =
       let claim : g.claim c.lifetimes = search rules in
-      let laws = g.met.P.Resume c.lifetimes claim in
+      let laws = g.met.P.Sweep c.lifetimes claim in
       let inv = c.turns.invariant in
       let told_at = c.save_if_due.ensures.changes.before told in
       images_on g.P.Sweep.saving laws.stays laws.apart (g.P.Sweep.accounts.makes c.args.sweep.now) (g.P.Sweep.saving.operands (g.P.Sweep.task c.args.sweep.now)) c.args.going.now.step
@@ -139,7 +139,7 @@ module _ (g : given.Over) where
   save_stage c told job remains sure paid =
       let at = (goal.at.In_ok-save_if_due g c).After-save_if_due in
       let claim : g.claim c.lifetimes = search rules in
-      let laws = g.met.P.Resume c.lifetimes claim in
+      let laws = g.met.P.Sweep c.lifetimes claim in
       let inv = c.turns.invariant in
       let first = c.in_ok-save_if_due.ensures in
       let told_at = first.changes.before told in
@@ -232,7 +232,7 @@ module _ (g : given.Over) where
   turn_stage c told job remains sure paid =
       let at = goal.at.After-run_some g c in
       let claim : g.claim c.lifetimes = search rules in
-      let laws = g.met.P.Resume c.lifetimes claim in
+      let laws = g.met.P.Sweep c.lifetimes claim in
       let inv = c.turns.invariant in
       let first = c.in_ok-save_if_due.ensures in
       let ran = c.run_some.ensures.leaves in
@@ -536,7 +536,7 @@ module _ (g : given.Over) where
 pub turns-init : goal.turns-init
 turns-init g c =
     let claim : g.claim c.lifetimes = search rules in
-    let laws = g.met.P.Resume c.lifetimes claim in
+    let laws = g.met.P.Sweep c.lifetimes claim in
     let made = g.P.Sweep.accounts.makes c.args.sweep.now in
     let read = g.P.Sweep.saving.operands (g.P.Sweep.task c.args.sweep.now) in
     let next = g.P.Sweep.accounts.next c.args.sweep.now in
