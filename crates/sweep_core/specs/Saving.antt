@@ -1,5 +1,5 @@
 -- What is seen of the checkpoints of a sweep: what they rest on, and what they stand for.
-use Rattle.std.specs.Prelude.{◌≡◌, ◌≢◌, ◌⊎◌, ℕ, ◌<◌, ◌≤◌, List, []}
+use Rattle.std.specs.Prelude.{◌≡◌, ◌≢◌, ◌⊎◌, ℕ, ◌<◌, ◌≤◌, List}
 use Rattle.shelf_model.specs.declared.file_no.FileNo.{FileNo}
 use Rattle.shelf_model.specs.World.{World, file}
 use Rattle.file_numbers.specs.Files.{nodes_part, inner_part, ends_part, first_run_part, checkpoint_file, checkpoint_gate}
@@ -23,18 +23,6 @@ pub record Saving (Task Job : Type 0) : Type 1 where
   pub reading : Task → (FileNo → List ℕ) → ℕ
   -- with a text, and with what the files hold, it does the job, and no more turns than these remain
   pub stands : Checkpoint → List ℕ → (FileNo → List ℕ) → Job → ℕ → Type 0
-
--- what is seen of the checkpoints of a kind that has none
-abbrev pub saves_nothing : {Task Job : Type 0} → Saving Task Job
-saves_nothing = record {
-  operands = λ task f. ⊥;
-  text = λ task. [];
-  names = λ c task. ⊥;
-  fits = λ c text. ⊥;
-  rests = λ c f n. ⊥;
-  reading = λ task r. 0;
-  stands = λ c text r job turns. ⊥;
-}
 
 -- what a read gives of each file
 abbrev pub reads_of : World → FileNo → List ℕ
