@@ -116,7 +116,9 @@ module _ {S : Type 0} (tells : S → Bool) (world : S → World) (counts : S →
       making = t.leaves.making;
       step_is = t.leaves.step_is;
       later = t.leaves.later;
+      within = t.leaves.within;
       content = t.leaves.content;
+      untaken = t.leaves.untaken;
       calls = t.leaves.calls;
       spent = t.leaves.spent;
       faults = t.leaves.faults;

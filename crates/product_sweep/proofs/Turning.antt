@@ -119,7 +119,9 @@ module _ {S : Type 0} (tells : S → Bool) (world : S → World) (counts : S →
     making = l.making;
     step_is = l.step_is;
     later = l.later;
+    within = l.within;
     content = l.content;
+    untaken = l.untaken;
     calls = l.calls;
     spent = l.spent;
     faults = l.faults;
@@ -204,7 +206,9 @@ module _ {S : Type 0} (tells : S → Bool) (world : S → World) (counts : S →
           making = l.making;
           step_is = l.step_is;
           later = l.later;
+          within = l.within;
           content = l.content;
+          untaken = l.untaken;
           calls = l.calls;
           spent = l.spent;
           faults = l.faults;

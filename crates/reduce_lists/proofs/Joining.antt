@@ -33,11 +33,11 @@ use Rattle.arc_diagrams.specs.Items.{as_arc}
 use Rattle.arc_diagrams.specs.declared.final_arc.FinalArc.{FinalArc}
 use Rattle.arc_diagrams.specs.declared.source_row.SourceRow.{SourceRow}
 use Rattle.arc_diagrams.specs.declared.name.Name.{Name}
-use Rattle.sweep_core.specs.Accounts.{CanBeTaken, OnlyOwn}
-use Rattle.shelf_model.specs.File.{IsKept}
+use Rattle.sweep_core.specs.Accounts.{CanBeTaken, StayEmpty, OnlyOwn}
+use Rattle.shelf_model.specs.File.{File, IsKept}
 use Rattle.shelf_model.specs.Folder.{file_in}
 use Rattle.shelf_model.specs.Calls.{Told}
-use Rattle.shelf_model.proofs.Runs.{told, ran_weakens}
+use Rattle.shelf_model.proofs.Runs.{told, ran_weakens, ran_end}
 use Rattle.reduce_lists.specs.declared.held.Ahead.{Ahead}
 use Rattle.reduce_lists.specs.declared.held.Lists.{Lists}
 use Rattle.reduce_lists.specs.Held.{Held, AreServed, IsRun}
@@ -346,3 +346,9 @@ own_wrote tells world out step next n s t did = told tells s t _ _ did (λ _ wro
       kept = λ f mine front kept. subst (λ g. IsKept front (file_in m.folder g)) (sym mine)
           (during.kept front (subst (λ g. IsKept front (file_in (now (world s)).folder g)) mine kept));
     }) wrote.run)
+
+-- in every other file what was empty stays so
+pub wrote_empty : (out : FileNo) (step next n : ℕ) (old new : World) → Wrote n out old new
+    → StayEmpty (λ f. f ≡ out) step next old new
+wrote_empty out step next n old new wrote f other free empty =
+    ap (λ (x : File). x.bytes) ((ran_end old new (DuringWrite out (now old)) wrote.run).others f other) ∙ empty

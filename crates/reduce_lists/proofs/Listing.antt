@@ -216,7 +216,7 @@ gives_known Old New told (Err e) gives = tt
 
 -- no part was taken
 pub took_none : (parts : Parts) → Took parts parts
-took_none parts = record { step_is = refl; later = omega arith }
+took_none parts = record { step_is = refl; later = omega arith; within = λ few. few }
 
 -- so where no file changed only the files of parts that were taken did
 pub stays_spilled : {S : Type 0} (tells : S → Bool) (world : S → World) (old new : S) (parts : Parts)

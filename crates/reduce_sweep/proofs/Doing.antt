@@ -138,7 +138,9 @@ module _ {S : Type 0} (tells : S → Bool) (world : S → World) (counts : S →
       making = d.leaves.making;
       step_is = d.leaves.step_is;
       later = d.leaves.later;
+      within = d.leaves.within;
       content = d.leaves.content;
+      untaken = d.leaves.untaken;
       calls = d.leaves.calls;
       spent = d.leaves.spent;
       faults = d.leaves.faults;

@@ -20,6 +20,7 @@ use Rattle.arc_diagrams.specs.declared.name.Name.{Name}
 use Rattle.arc_file.specs.declared.reader.ArcReader.{ArcReader}
 use Rattle.arc_file.specs.Streams.{file_of}
 use Rattle.arc_file.specs.Readers.{inner_of, ends_of}
+use Rattle.sweep_core.proofs.Untaken.{spilled_empty}
 use Rattle.reduce_lists.specs.declared.held.Ahead.{Ahead}
 use Rattle.reduce_lists.specs.declared.held.Lists.{Lists}
 use Rattle.reduce_lists.specs.Held.{AreServed, AreWithin}
@@ -29,7 +30,7 @@ use Rattle.reduce_lists.specs.Contents.{QueueLists, RowLists, NameLists}
 use Rattle.reduce_lists.proofs.Listing.{serves_queue, serves_rows, serves_names, own_content, queue_works, rows_work, names_work, queue_listed, rows_listed, names_listed}
 use Rattle.reduce_lists.proofs.Refusing.{if_err_weaker}
 use Rattle.reduce_sweep.specs.declared.reduce.ReduceSweep.{ReduceSweep}
-use Rattle.reduce_sweep.specs.Sweeps.{held_of, inner_file, ends_file, credit_of, stock_of, AreFew, IsSound}
+use Rattle.reduce_sweep.specs.Sweeps.{held_of, out_of, inner_file, ends_file, credit_of, stock_of, AreFew, IsSound}
 use Rattle.reduce_sweep.specs.Calls.{IsFit, KeepsLists, Does}
 use Rattle.reduce_sweep.proofs.Refusing.{list_refuses}
 
@@ -65,7 +66,10 @@ module _ {S : Type 0} (tells : S → Bool) (world : S → World) (counts : S →
         making = λ f e. e;
         step_is = took.step_is;
         later = took.later;
+        within = took.within;
         content = own_content tells world old new (held_of s) fit.sound.served after content;
+        untaken = λ told. spilled_empty (λ f. f ≡ out_of s) s.parts.step s.parts after (world old) (world new)
+            (content.did told);
         calls = calls;
         spent = spent;
         faults = faults;

@@ -33,6 +33,7 @@ use Rattle.arc_file.specs.Readers.{inner_of, ends_of}
 use Rattle.sweep_core.specs.Accounts.{CanBeTaken}
 use Rattle.sweep_core.specs.Carries.{IsBehindPoints, OnlySaved}
 use Rattle.sweep_core.specs.Sweeps.{IsNoDamage}
+use Rattle.sweep_core.proofs.Untaken.{froze_empty}
 use Rattle.reduce_lists.specs.declared.held.Ahead.{Ahead}
 use Rattle.reduce_lists.specs.declared.held.Lists.{Lists}
 use Rattle.reduce_lists.specs.AtWork.{AreListed}
@@ -90,7 +91,10 @@ module _ {S : Type 0} (tells : S → Bool) (world : S → World) (counts : S →
       making = λ f e. e;
       step_is = took.step_is;
       later = took.later;
+      within = took.within;
       content = froze_content;
+      untaken = λ told. froze_empty (λ f. f ≡ out_of s) is_run s.parts.step s.parts after (world old) (world new)
+          (content.did told);
       calls = calls;
       spent = spent;
       faults = faults;

@@ -12,6 +12,7 @@ use Rattle.run_tiers.specs.Faults.{OnlySortShelf}
 use Rattle.run_tiers.specs.declared.parts.Parts.{Parts}
 use Rattle.sweep_core.specs.Accounts.{OnlyOwn, Leaves}
 use Rattle.sweep_core.proofs.Leaving.{own_stays}
+use Rattle.sweep_core.proofs.Untaken.{stays_empty}
 use Rattle.restrict_eval.specs.Accounts.{reading_accounts}
 
 -- where a call went well, another answer has no other cause
@@ -33,9 +34,12 @@ module _ {S P : Type 0} (tells : S → Bool) (world : S → World) (counts : S �
         making = λ f mine. mine;
         step_is = ap (λ (p : Parts). p.step) same;
         later = omega (arith, next);
+        within = λ few. omega (arith, next, few);
         content = told tells before after _ _ content (λ _ looked. ran_weakens (world before) (world after) (Stays (now (world before)))
             (OnlyOwn (λ f. ⊥) (parts_of old).step (parts_of old).next (now (world before)))
             (λ m stays. own_stays (λ f. ⊥) (parts_of old).step (parts_of old).next (now (world before)) m stays) looked.run);
+        untaken = λ is. stays_empty (λ f. ⊥) (parts_of old).step (parts_of new).next (world before) (world after)
+            (content.did is).run;
         calls = λ is. let few : (world after).clock ≤ (world before).clock + 1 = (content.did is).few in omega (arith, few);
         spent = omega (arith, next);
         faults = faults;

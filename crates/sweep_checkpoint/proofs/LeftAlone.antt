@@ -9,10 +9,11 @@ use Rattle.shelf_model.specs.Calls.{Told}
 use Rattle.shelf_model.specs.Moments.{Ran, OnlyChanged}
 use Rattle.shelf_model.proofs.Runs.{ran_end}
 use Rattle.sweep_core.specs.declared.checkpoint.Checkpoint.{Checkpoint}
-use Rattle.sweep_core.specs.Accounts.{CanBeTaken}
+use Rattle.file_numbers.specs.Files.{inner_part}
+use Rattle.sweep_core.specs.Accounts.{CanBeTaken, StayEmpty}
 use Rattle.sweep_core.specs.Carries.{OnlySaved}
 use Rattle.sweep_checkpoint.specs.Saves.{DuringSave}
-use Rattle.sweep_checkpoint.specs.Retires.{IsGivenUp}
+use Rattle.sweep_checkpoint.specs.Retires.{IsGivenUp, Emptied}
 use Rattle.sweep_checkpoint.specs.Going.{IsLeftAlone}
 use Rattle.sweep_checkpoint.proofs.SavedHere.{IsCarried}
 
@@ -54,6 +55,17 @@ alone_retire : (makes : FileNo → Type 0) (older : Option Checkpoint) (c : Chec
 alone_retire makes older c next f old m only alone =
     let below = alone.below in
     ap (λ (x : File). x.bytes) (only f (λ gone. let from = gone.from in absurd (omega (arith, from, below))))
+
+-- of the files behind the parts that were taken none is filled while a sweep is saved
+pub saved_empty : (makes these : FileNo → Type 0) (c : Checkpoint) (step next : ℕ) (old mid new end : World)
+    → c.step ≡ step → inner_part ≤ next → StayEmpty makes step next old mid → DuringSave c (now mid) (now new)
+    → Emptied these new end → StayEmpty makes step next old end
+saved_empty makes these c step next old mid new end same parts carried saves retired f other free empty =
+    let from : next ≤ f.part = free.from in
+    retired.still f (ap (λ (x : File). x.bytes) (saves.others f
+    (λ is. let part = ap (λ (q : FileNo). q.part) is in absurd (omega (arith, from, parts, part)))
+    (λ is. let part = ap (λ (q : FileNo). q.part) is in absurd (omega (arith, from, parts, part))))
+    ∙ carried f other free empty)
 
 -- behind each of the calls of a save
 module _ {S : Type 0} (tells : S → Bool) (world : S → World) (makes operands : FileNo → Type 0) (next later : ℕ)

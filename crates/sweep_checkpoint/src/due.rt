@@ -7,6 +7,7 @@ ghost use Rattle.shelf_model.specs.Moments.{Ran, Throughout, OnlyChanged};
 ghost use Rattle.shelf_model.specs.World.{Moment, now, file};
 ghost use Rattle.file_numbers.specs.Files.{checkpoint_file};
 ghost use Rattle.run_tiers.specs.Faults.{OnlySortShelf};
+ghost use Rattle.sweep_core.specs.Accounts.{StayEmpty};
 ghost use Rattle.sweep_core.specs.Saving.{IsOfStep};
 ghost use Rattle.sweep_core.specs.Sweeps.{IsNoDamage};
 ghost use Rattle.sweep_core.specs.Carries.{OnlySaved};
@@ -96,6 +97,9 @@ pub(crate) fn save_if_due<'r, P: Sweep<'r>, S: Shelf>(
     ensures alone { IsTrue (S.tells shelf.new) → (f : FileNo) →
         IsLeftAlone (P.accounts.makes sweep.old) going.old.step (P.accounts.next sweep.old) f →
         (file (S.world shelf.new) f).bytes ≡ (file (S.world shelf.old) f).bytes }
+    // nothing is put into a file of the step whose part wasn't taken
+    ensures untaken { OnOk result (IsTrue (S.tells shelf.new) → StayEmpty (P.accounts.makes sweep.old) going.old.step
+        (P.accounts.next sweep.new) (S.world shelf.old) (S.world shelf.new)) }
     ensures images { IsTrue (S.tells shelf.new) → (job : P.Job) → P.remains sweep.old (S.world shelf.old) job →
         AreSure (P.saving.operands (P.task sweep.old)) going.old.step (now (S.world shelf.old)).folder →
         (going.old.turns < 2 ^ 64 - 1 → IsPaidTo P.accounts going.old sweep.old) →
@@ -127,6 +131,7 @@ pub(crate) fn save_if_due<'r, P: Sweep<'r>, S: Shelf>(
     ensures making { (f : FileNo) → P.accounts.makes sweep.old f → P.accounts.makes sweep.new f }
     ensures step { P.accounts.step sweep.new ≡ P.accounts.step sweep.old }
     ensures later { P.accounts.next sweep.old ≤ P.accounts.next sweep.new }
+    ensures within { P.accounts.next sweep.old ≤ 2 ^ 32 → P.accounts.next sweep.new ≤ 2 ^ 32 }
     ensures spent { IsErrOf result SortFault.RunsSpent → 2 ^ 32 ≤ P.accounts.next sweep.new }
     ensures faults { OnlySortShelf (S.faults shelf.old) (S.faults shelf.new) result }
 {

@@ -7,6 +7,7 @@ ghost use Rattle.shelf_model.specs.Moments.{Ran, Throughout, OnlyChanged};
 ghost use Rattle.shelf_model.specs.World.{Moment, now, file};
 ghost use Rattle.file_numbers.specs.Files.{checkpoint_file};
 ghost use Rattle.run_tiers.specs.Faults.{OnlySortShelf};
+ghost use Rattle.sweep_core.specs.Accounts.{StayEmpty};
 ghost use Rattle.sweep_core.specs.Saving.{IsOfStep};
 ghost use Rattle.sweep_core.specs.Sweeps.{IsFirm, IsNoDamage};
 ghost use Rattle.sweep_core.specs.Carries.{OnlySaved};
@@ -77,6 +78,7 @@ pub fn run_saved<'r, P: Sweep<'r>, S: Shelf>(
         sweep.old sweep.new
         × OnOk result (interval_of going.old.budget * saves + going.old.shown ≤ going.new.shown) }
     ensures later { OnOk result (P.accounts.next sweep.old ≤ P.accounts.next sweep.new) }
+    ensures within { OnOk result (P.accounts.next sweep.old ≤ 2 ^ 32 → P.accounts.next sweep.new ≤ 2 ^ 32) }
     ensures owed { OnOk result (first_owed going.old.last (P.accounts.next sweep.old)
         ≤ first_owed going.new.last (P.accounts.next sweep.new)) }
     ensures paid { OnOk result (going.new.turns < 2 ^ 64 - 1 → IsPaidTo P.accounts going.old sweep.old →
@@ -114,6 +116,9 @@ pub fn run_saved<'r, P: Sweep<'r>, S: Shelf>(
     ensures alone { IsTrue (S.tells shelf.new) → (f : FileNo) →
         IsLeftAlone (P.accounts.makes sweep.old) going.old.step (P.accounts.next sweep.old) f →
         (file (S.world shelf.new) f).bytes ≡ (file (S.world shelf.old) f).bytes }
+    // nothing is put into a file of the step whose part wasn't taken
+    ensures untaken { OnOk result (IsTrue (S.tells shelf.new) → StayEmpty (P.accounts.makes sweep.old) going.old.step
+        (P.accounts.next sweep.new) (S.world shelf.old) (S.world shelf.new)) }
     ensures images { IsTrue (S.tells shelf.new) → (job : P.Job) → P.remains sweep.old (S.world shelf.old) job →
         AreSure (P.saving.operands (P.task sweep.old)) going.old.step (now (S.world shelf.old)).folder →
         IsPaidTo P.accounts going.old sweep.old →

@@ -12,7 +12,7 @@ use Rattle.run_tiers.proofs.SyncLaws.{same_or_firm_kept, same_or_firm_then, same
 use Rattle.run_tiers.proofs.FaultLaws.{sort_shelf_then, sort_shelf_on}
 use Rattle.sweep_core.specs.Accounts.{Accounts, CanBeTaken, OnlyOwn, Leaves}
 use Rattle.sweep_core.specs.Carries.{IsBehindPoints, OnlySaved, Carries}
-use Rattle.sweep_core.proofs.Leaving.{taken_before}
+use Rattle.sweep_core.proofs.Leaving.{taken_before, stay_empty_then}
 
 -- turns change no more than what is made ready to be saved
 pub own_saved : (makes : FileNo → Type 0) (step next : ℕ) (old m : Moment) → OnlyOwn makes step next old m
@@ -52,10 +52,12 @@ module _ {S P : Type 0} (tells : S → Bool) (world : S → World) (faults : S �
     making = l.making;
     step_is = l.step_is;
     later = l.later;
+    within = l.within;
     content = told tells first second _ _ l.content (λ _ ran. ran_weakens (world first) (world second)
         (OnlyOwn (accounts.makes p) (accounts.step p) (accounts.next p) (now (world first)))
         (OnlySaved (accounts.makes p) (accounts.step p) (accounts.next p) (now (world first)))
         (λ at own. own_saved (accounts.makes p) (accounts.step p) (accounts.next p) (now (world first)) at own) ran);
+    untaken = l.untaken;
     calls = l.calls;
     spent = l.spent;
     faults = l.faults;
@@ -74,6 +76,7 @@ module _ {S P : Type 0} (tells : S → Bool) (world : S → World) (faults : S �
         let i : accounts.next p ≤ accounts.next q = x.later in
         let j : accounts.next q ≤ accounts.next r = y.later in
         omega (arith, i, j);
+    within = λ few. y.within (x.within few);
     content = told_then tells first second third _ _ _ x.content y.content (λ _ ran more.
         let saved = OnlySaved (accounts.makes p) (accounts.step p) (accounts.next p) (now (world first)) in
         ran_joins (world first) (world second) (world third) saved ran
@@ -82,6 +85,9 @@ module _ {S P : Type 0} (tells : S → Bool) (world : S → World) (faults : S �
         (λ at then. saved_on (accounts.makes p) (accounts.makes q) (accounts.step p) (accounts.next p) (accounts.step q)
         (accounts.next q) (now (world first)) (now (world second)) at x.made x.making x.step_is x.later
         (ran_end (world first) (world second) saved ran) then) more));
+    untaken = λ is. stay_empty_then (accounts.makes p) (accounts.makes q) (accounts.step p) (accounts.step q)
+        (accounts.next q) (accounts.next r) (world first) (world second) (world third) x.made x.step_is y.later
+        (x.untaken (y.content.before is)) (y.untaken is);
     calls = λ is. let i = x.calls (y.content.before is) in let j = y.calls is in omega (arith, i, j);
     spent =
         let i = x.spent in
@@ -101,7 +107,9 @@ module _ {S P : Type 0} (tells : S → Bool) (world : S → World) (faults : S �
     making = x.making;
     step_is = x.step_is;
     later = x.later;
+    within = x.within;
     content = x.content;
+    untaken = x.untaken;
     calls = λ is. let i = x.calls is in omega (arith, i, calls);
     spent = let i = x.spent in omega (arith, i, parts);
     faults = x.faults;
@@ -116,7 +124,9 @@ module _ {S P : Type 0} (tells : S → Bool) (world : S → World) (faults : S �
     making = c.making;
     step_is = c.step_is;
     later = c.later;
+    within = c.within;
     content = c.content;
+    untaken = c.untaken;
     calls = c.calls;
     spent = c.spent;
     faults = record { later = c.faults.later; cause = λ is. cc; say_is = c.faults.say_is; text_is = c.faults.text_is };
@@ -131,7 +141,9 @@ module _ {S P : Type 0} (tells : S → Bool) (world : S → World) (faults : S �
     making = c.making;
     step_is = c.step_is;
     later = c.later;
+    within = c.within;
     content = c.content;
+    untaken = c.untaken;
     calls = c.calls;
     spent = c.spent;
     faults = sort_shelf_on (faults first) (faults second) e result is c.faults;

@@ -1,5 +1,5 @@
 -- What a sweep that is saved leaves and costs, and one that is rebuilt.
-use Rattle.std.specs.Prelude.{◌≡◌, ◌⊎◌, ℕ, ◌+◌, ◌-◌, ◌*◌, ◌≤◌, Bool, IsTrue, List, length, take, Result}
+use Rattle.std.specs.Prelude.{◌≡◌, ◌⊎◌, ℕ, ◌+◌, ◌-◌, ◌*◌, ◌^◌, ◌≤◌, Bool, IsTrue, List, length, take, Result}
 use Rattle.shelf_model.specs.declared.file_no.FileNo.{FileNo}
 use Rattle.shelf_model.specs.declared.sort_fault.SortFault.{SortFault}
 use Rattle.shelf_model.specs.Calls.{Told}
@@ -13,7 +13,7 @@ use Rattle.run_tiers.specs.Faults.{OnlySortShelf}
 use Rattle.run_tiers.specs.Parts.{Paid}
 use Rattle.run_tiers.specs.Syncs.{IsSameOrFirm}
 use Rattle.sweep_core.specs.declared.checkpoint.Checkpoint.{Checkpoint}
-use Rattle.sweep_core.specs.Accounts.{Accounts, CanBeTaken}
+use Rattle.sweep_core.specs.Accounts.{Accounts, CanBeTaken, StayEmpty}
 use Rattle.sweep_core.specs.Saving.{IsMadePart}
 use Rattle.sweep_core.specs.Tables.{Names}
 
@@ -33,19 +33,24 @@ pub record OnlySaved (makes : FileNo → Type 0) (step next : ℕ) (old m : Mome
 pub record Carries {S P T : Type 0} (tells : S → Bool) (world : S → World) (counts : S → Faults)
     (accounts : Accounts P) (most_calls most_parts : ℕ) (before after : S) (old new : P)
     (result : Result T SortFault) : Type 0 where
-  -- it makes the same files, of the same step, and parts were taken in turn
+  -- it makes the same files, of the same step, and parts were taken in turn, none from 2^32 on
   pub made : (f : FileNo) → accounts.makes new f → accounts.makes old f
   pub making : (f : FileNo) → accounts.makes old f → accounts.makes new f
   pub step_is : accounts.step new ≡ accounts.step old
   pub later : accounts.next old ≤ accounts.next new
+  pub within : accounts.next old ≤ 2 ^ 32 → accounts.next new ≤ 2 ^ 32
   pub content : Told tells before after (Ran (OnlySaved (accounts.makes old) (accounts.step old) (accounts.next old)
       (now (world before))) (world before) (world after))
+  -- nothing is put into a file whose part wasn't taken
+  pub untaken : IsTrue (tells after)
+      → StayEmpty (accounts.makes old) (accounts.step old) (accounts.next new) (world before) (world after)
   pub calls : IsTrue (tells after) → Paid most_calls (accounts.credit old) (accounts.credit new) (world before)
       (world after)
   pub spent : 256 * (accounts.next new - accounts.next old) + accounts.stock new ≤ accounts.stock old + most_parts
   pub faults : OnlySortShelf (counts before) (counts after) result
 
--- a sweep that was just saved works on the file: it is an operand, one that it makes, or a run that the checkpoint names
+-- a sweep that was just saved works on the file: it is an operand, one that it makes, or a run that the checkpoint
+-- names
 abbrev pub IsUsed : (FileNo → Type 0) → (FileNo → Type 0) → Checkpoint → FileNo → Type 0
 IsUsed makes operands c f = operands f ⊎ makes f ⊎ ((f.step ≡ c.step) × Names c f.part)
 
@@ -57,9 +62,9 @@ pub record IsStill {Job : Type 0} (in_step trusts : World → Type 0) (remains :
   pub keeps : (job : Job) → remains old job → remains new job
   pub fewer : (job : Job) → remains old job → left new job ≤ left old job
 
--- at a moment while a sweep is rebuilt, each file that no sweep of its step makes, each that its checkpoint doesn't rest
--- on, and each of which it rests on all, is as it was; and of each other one the front that it rests on gives what it
--- gave, and is kept where it was
+-- at a moment while a sweep is rebuilt, each file that no sweep of its step makes, each that its checkpoint doesn't
+-- rest on, and each of which it rests on all, is as it was; and of each other one the front that it rests on gives what
+-- it gave, and is kept where it was
 pub record OnlyCutBehind (c : Checkpoint) (rests : FileNo → ℕ → Type 0) (old m : Moment) : Type 0 where
   pub unmade : (f : FileNo) → ¬ IsMadePart c.step c.next_part f → file_in m.folder f ≡ file_in old.folder f
   pub others : (f : FileNo) → ¬ (rests f 0) → file_in m.folder f ≡ file_in old.folder f

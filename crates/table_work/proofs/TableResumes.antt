@@ -37,7 +37,9 @@ carries_along view tells world counts accounts calls parts before after old new 
   making = c.making;
   step_is = c.step_is;
   later = c.later;
+  within = c.within;
   content = c.content;
+  untaken = c.untaken;
   calls = c.calls;
   spent = c.spent;
   faults = c.faults;

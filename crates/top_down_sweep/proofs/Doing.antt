@@ -4,13 +4,13 @@ use Rattle.std.specs.Prelude.{Result, Ok, Err, IsErrAnd, IfErr, OnOk, IsErrOf, I
 use Rattle.shelf_model.specs.declared.file_no.FileNo.{FileNo}
 use Rattle.shelf_model.specs.declared.sort_fault.SortFault.{SortFault}
 use Rattle.shelf_model.specs.declared.sort_fault.SortFault.TheVariants.{Shelf, Damaged, RunsSpent}
-use Rattle.shelf_model.specs.File.{IsKept}
+use Rattle.shelf_model.specs.File.{File, IsKept}
 use Rattle.shelf_model.specs.Folder.{file_in}
 use Rattle.shelf_model.specs.Calls.{Told}
 use Rattle.shelf_model.specs.Moments.{Ran, Stays}
 use Rattle.shelf_model.specs.Faults.{Faults}
 use Rattle.shelf_model.specs.World.{World, Moment, now}
-use Rattle.shelf_model.proofs.Runs.{told, ran_weakens}
+use Rattle.shelf_model.proofs.Runs.{told, ran_weakens, ran_end}
 use Rattle.block_stream.specs.Reads.{Looked}
 use Rattle.arc_file.specs.Pairs.{DuringWrites, WroteBoth}
 use Rattle.arc_file.specs.declared.writer.ArcWriter.{ArcWriter}
@@ -22,13 +22,14 @@ use Rattle.level_queue.specs.declared.queue.LevelQueue.{LevelQueue}
 use Rattle.level_queue.specs.Queues as queues
 use Rattle.sweep_core.specs.Accounts.{CanBeTaken, OnlyOwn}
 use Rattle.sweep_core.proofs.Leaving.{own_stays, leaves_then, leaves_more, leaves_ok, leaves_err}
+use Rattle.sweep_core.proofs.Untaken.{stays_empty, spilled_empty}
 use Rattle.top_down.specs.declared.tuple.Tuple.{Tuple}
 use Rattle.top_down.specs.Rules.{Rule}
 use Rattle.top_down_sweep.specs.declared.machine.Machine.{Machine}
 use Rattle.top_down_sweep.specs.declared.ask.Ask.{Ask}
 use Rattle.top_down_sweep.specs.declared.place.Place.{Place}
 use Rattle.top_down_sweep.specs.declared.sweep.TopDownSweep.{TopDownSweep}
-use Rattle.top_down_sweep.specs.Sweeps.{files_in, task_in, parts_of, IsServed, machine_accounts, Refuses, Refused}
+use Rattle.top_down_sweep.specs.Sweeps.{IsMade, files_in, task_in, parts_of, IsServed, machine_accounts, Refuses, Refused}
 use Rattle.sweep_core.specs.Sweeps.{IsNoDamage}
 use Rattle.top_down_sweep.specs.declared.operand.Operands.{Operands}
 use Rattle.top_down_sweep.specs.Damage.{IsMachineDamage}
@@ -207,8 +208,12 @@ module _ {S : Type 0} (tells : S → Bool) (world : S → World) (counts : S →
           mine;
       step_is = refl;
       later = omega arith;
+      within = λ few. few;
       content = own_both (inner_file p.writer) (ends_file p.writer) p.parts.step p.parts.next n s t
           did;
+      untaken = λ is_told f other free empty. ap (λ (x : File). x.bytes) ((ran_end (world s) (world t)
+          (DuringWrites (inner_file p.writer) (ends_file p.writer) (now (world s))) (did.did is_told).run).others f
+          (λ is. other (inl is)) (λ is. other (inr is))) ∙ empty;
       calls = λ is_told. (let few = (did.did is_told).few in omega (arith, few));
       spent = omega arith;
       faults = faults;
@@ -248,8 +253,11 @@ module _ {S : Type 0} (tells : S → Bool) (world : S → World) (counts : S →
           making = λ f mine. mine;
           step_is = took.step_is;
           later = took.later;
+          within = took.within;
           content = own_spilled (inner_file p.writer) (ends_file p.writer) p.parts parts s t
               served.inner_made served.ends_made did;
+          untaken = λ is_told. spilled_empty (λ f. IsMade (files_in p) f) p.parts.step p.parts parts (world s)
+              (world t) (did.did is_told);
           calls = paid;
           spent = (let all = spent in omega (arith, all));
           faults = faults;
@@ -270,9 +278,12 @@ module _ {S : Type 0} (tells : S → Bool) (world : S → World) (counts : S →
       making = λ f mine. mine;
       step_is = refl;
       later = omega arith;
+      within = λ few. few;
       content = told tells s t _ _ did (λ _ looked. ran_weakens (world s) (world t)
           (Stays (now (world s))) _ (λ m same. own_stays _ p.parts.step p.parts.next (now (world s))
           m same) looked.run);
+      untaken = λ is_told. stays_empty (λ f. IsMade (files_in p) f) p.parts.step p.parts.next (world s) (world t)
+          (did.did is_told).run;
       calls = λ is_told. (let few = (did.did is_told).few in omega (arith, few));
       spent = omega arith;
       faults = faults;

@@ -185,7 +185,7 @@ pub served_shown : (m : Machine) (q : LevelQueue Ask) → IsServed m
     → ((f : FileNo) → queues.IsRunOf q f → queues.IsRunOf m.queue f)
     → IsServed (record m { queue = q })
 served_shown m q served values serves runs = served_on m q m.parts served
-    (record { step_is = refl; later = omega arith }) values serves (λ f run. inl (runs f run))
+    (record { step_is = refl; later = omega arith; within = λ few. few }) values serves (λ f run. inl (runs f run))
 
 module _ (m : Machine) (q : LevelQueue Ask) (after : Parts) (old new : World) (served : IsServed m)
     (are : AreOperands m.place.variables m.operands)

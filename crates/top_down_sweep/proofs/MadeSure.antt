@@ -34,6 +34,7 @@ use Rattle.sweep_core.specs.Accounts.{CanBeTaken}
 use Rattle.sweep_core.specs.Carries.{IsBehindPoints, OnlySaved}
 use Rattle.sweep_core.specs.Sweeps.{IsNoDamage}
 use Rattle.sweep_core.proofs.Carrying.{froze_saved, carries_then, carries_more, carries_ok, carries_err}
+use Rattle.sweep_core.proofs.Untaken.{froze_empty}
 use Rattle.top_down_sweep.specs.declared.ask.Ask.{Ask}
 use Rattle.top_down_sweep.specs.declared.place.Phase.{Phase}
 use Rattle.top_down_sweep.specs.declared.place.Phase.TheVariants as phases
@@ -298,11 +299,14 @@ module _ {S : Type 0} (tells : S → Bool) (world : S → World) (s t : S) (m : 
             making = λ f mine. mine;
             step_is = took.step_is;
             later = took.later;
+            within = took.within;
             content = told tells s t _ _ did (λ _ ran. ran_weakens (world s) (world t)
                 (Froze (queues.IsRunOf m.queue) m.parts after (now (world s)))
                 (OnlySaved (λ f. IsMade (files_in m) f) m.parts.step m.parts.next (now (world s)))
                 (λ at froze. froze_saved (λ f. IsMade (files_in m) f) (queues.IsRunOf m.queue) m.parts after
                 (now (world s)) at (λ f run. behind f run) (made_free m served) froze) ran);
+            untaken = λ is. froze_empty (λ f. IsMade (files_in m) f) (queues.IsRunOf m.queue) m.parts.step m.parts after
+                (world s) (world t) (did.did is);
             calls = paid;
             spent = (let all = spent in omega (arith, all));
             faults = faults;

@@ -179,7 +179,9 @@ module _ {P Q : Type 0} (view : Q → P) where
     making = leaves.making;
     step_is = leaves.step_is;
     later = leaves.later;
+    within = leaves.within;
     content = leaves.content;
+    untaken = leaves.untaken;
     calls = leaves.calls;
     spent = leaves.spent;
     faults = leaves.faults;

@@ -79,5 +79,5 @@ module _ {S : Type 0} (tells : S → Bool) (world : S → World) (counts : S →
       (told tells s t (Ran (Stays (now (world s))) (world s) (world t)) (Spilled m.parts m.parts (world s) (world t)) did
       (λ _ ran. ran_weakens (world s) (world t) (Stays (now (world s))) (OnlyTaken m.parts m.parts (now (world s)))
       (λ k same f untaken. ap (λ (d : Folder). file_in d f) same) ran)) paid
-      (record { step_is = refl; later = omega arith }) (omega (arith, stock)) faults
+      (record { step_is = refl; later = omega arith; within = λ few. few }) (omega (arith, stock)) faults
       (queue_refuses (record m { queue = q }) m.queue result served.serves serves values cause)

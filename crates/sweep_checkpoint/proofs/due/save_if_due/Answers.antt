@@ -3,11 +3,13 @@ use Rattle.shelf_model.specs.declared.file_no.FileNo.{FileNo}
 use Rattle.shelf_model.specs.Calls.{Told}
 use Rattle.shelf_model.specs.Moments.{Ran, Throughout, OnlyChanged}
 use Rattle.shelf_model.specs.World.{Moment, now, file}
+use Rattle.shelf_model.proofs.Runs.{ran_end}
 use Rattle.file_numbers.specs.Files.{checkpoint_file}
 use Rattle.sweep_core.specs.declared.checkpoint.Checkpoint.{Checkpoint}
+use Rattle.sweep_core.specs.Accounts.{StayEmpty}
 use Rattle.sweep_core.specs.Saving.{IsOfStep}
 use Rattle.sweep_core.specs.Carries.{IsStill}
-use Rattle.sweep_checkpoint.specs.Saves.{gated_size, IsGateSure}
+use Rattle.sweep_checkpoint.specs.Saves.{gated_size, IsGateSure, DuringSave}
 use Rattle.sweep_checkpoint.specs.Retires.{first_taken}
 use Rattle.sweep_checkpoint.specs.declared.going.Going.{Going}
 use Rattle.sweep_checkpoint.specs.Going.{IsOfGoing, IsLeftAlone, IsPaidTo, AreSure, Stands, interval_of, TakesCalls}
@@ -16,7 +18,7 @@ use Rattle.sweep_checkpoint.proofs.Spent.{save_calls, paid_point}
 use Rattle.sweep_checkpoint.proofs.Standing.{Ready}
 use Rattle.sweep_checkpoint.proofs.WentOn.{images_none}
 use Rattle.sweep_checkpoint.proofs.SavedHere.{AreLeft, IsCarried, carried_at, images_carry, images_save, images_retire, stands_retire, left_at, save_on, retire_on, works_on, covers_on, ready_by}
-use Rattle.sweep_checkpoint.proofs.LeftAlone.{carry_alone, save_alone, retire_alone}
+use Rattle.sweep_checkpoint.proofs.LeftAlone.{carry_alone, save_alone, retire_alone, saved_empty}
 use Rattle.sweep_checkpoint.proofs.Shown.{AreShown, shown_as, shown_none, shown_carry, shown_save, shown_retire, showed_retire, images_show}
 use Rattle.sweep_checkpoint.proofs.due.save_if_due.Given as given
 use Rattle.sweep_checkpoint.proofs.due.save_if_due.Goals as goal
@@ -399,3 +401,20 @@ returns-clause-covers g c = λ told covered.
     subst (λ s. gated_size s (now (g.S.Shelf.world c.retire.new.shelf)).folder ≤ length (file (g.S.Shelf.world c.retire.new.shelf) (checkpoint_file s)).bytes) c.in_ok-carry.ensures.head.step_is
     (covers_on g.S.Shelf.tells g.S.Shelf.world (g.P.Sweep.accounts.makes c.args.sweep.now) (g.P.Sweep.saving.operands (g.P.Sweep.task c.args.sweep.now)) (g.P.Sweep.accounts.next c.args.sweep.now)
     (g.P.Sweep.accounts.next c.carry.new.self) c.carry.new.into _ c.carry.new.shelf c.save.new.shelf c.retire.new.shelf c.in_ok-save.ensures.fits c.in_ok-save.ensures.ok c.in_ok-retire.ensures.content told)
+
+pub returns-clause-untaken : goal.returns-clause-untaken
+returns-clause-untaken g c = λ told.
+    let told_s = c.retire.ensures.content.before told in
+    let told_c = c.save.ensures.content.before told_s in
+    let later = c.carry.ensures.leaves.later in
+    let parts = c.requires.files.parts in
+    saved_empty (g.P.Sweep.accounts.makes c.args.sweep.now) _ c.carry.new.into c.args.going.now.step
+    (g.P.Sweep.accounts.next c.carry.new.self) (g.S.Shelf.world c.args.shelf.now) (g.S.Shelf.world c.carry.new.shelf)
+    (g.S.Shelf.world c.save.new.shelf) (g.S.Shelf.world c.retire.new.shelf) c.carry.ensures.head.step_is
+    (omega (arith, later, parts))
+    (subst (λ s. StayEmpty (g.P.Sweep.accounts.makes c.args.sweep.now) s (g.P.Sweep.accounts.next c.carry.new.self)
+    (g.S.Shelf.world c.args.shelf.now) (g.S.Shelf.world c.carry.new.shelf)) (sym c.requires.step)
+    (c.carry.ensures.leaves.untaken told_c))
+    (ran_end (g.S.Shelf.world c.carry.new.shelf) (g.S.Shelf.world c.save.new.shelf)
+    (DuringSave c.carry.new.into (now (g.S.Shelf.world c.carry.new.shelf))) (c.save.ensures.content.did told_s))
+    (c.in_ok-retire.ensures.ok told)

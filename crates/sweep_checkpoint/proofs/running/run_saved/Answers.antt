@@ -10,9 +10,10 @@ use Rattle.shelf_model.proofs.Changing.{told_changed_none, told_changed_then}
 use Rattle.file_numbers.specs.Files.{checkpoint_file}
 use Rattle.run_tiers.proofs.FaultLaws.{on_fault}
 use Rattle.sweep_core.specs.declared.turn.Turn.TheVariants.{Ended}
-use Rattle.sweep_core.specs.Accounts.{OnlyOwn}
+use Rattle.sweep_core.specs.Accounts.{StayEmpty, OnlyOwn}
 use Rattle.sweep_core.specs.Saving.{IsOfStep}
 use Rattle.sweep_core.specs.Carries.{OnlySaved}
+use Rattle.sweep_core.proofs.Leaving.{stay_empty_then}
 use Rattle.sweep_checkpoint.specs.Gated.{present, last_gated}
 use Rattle.sweep_checkpoint.specs.Saves.{gated_size, IsGateSure}
 use Rattle.sweep_checkpoint.specs.Retires.{first_taken}
@@ -273,6 +274,29 @@ module _ (g : given.Over) where
       next_at f (λ q mine. inv.made q (first.made q mine))
       (let one = inv.later in let two = first.later in omega (arith, one, two)) alone)
       ∙ save_alone at (c.run_some.ensures.leaves.content.before told) f alone
+
+  -- nor is a file filled whose part wasn't taken
+  turn_untaken : (c : In_ok-made g) → IsTrue (g.S.Shelf.tells c.run_some.new.shelf)
+      → StayEmpty (g.P.Sweep.accounts.makes c.args.sweep.now) c.args.going.now.step
+      (g.P.Sweep.accounts.next c.run_some.new.sweep) (g.S.Shelf.world c.args.shelf.now)
+      (g.S.Shelf.world c.run_some.new.shelf)
+  turn_untaken c told =
+      let inv = c.turns.invariant in
+      let first = c.in_ok-save_if_due.ensures in
+      let ran = c.in_ok-made.ensures in
+      let told_s = ran.leaves.content.before told in
+      let makes = g.P.Sweep.accounts.makes c.args.sweep.now in
+      let step = c.args.going.now.step in
+      stay_empty_then makes (g.P.Sweep.accounts.makes c.save_if_due.new.sweep) step
+      (g.P.Sweep.accounts.step c.save_if_due.new.sweep) (g.P.Sweep.accounts.next c.save_if_due.new.sweep)
+      (g.P.Sweep.accounts.next c.run_some.new.sweep) (g.S.Shelf.world c.args.shelf.now)
+      (g.S.Shelf.world c.save_if_due.new.shelf) (g.S.Shelf.world c.run_some.new.shelf)
+      (λ f mine. inv.made f (first.made f mine)) (first.step ∙ inv.step ∙ sym c.requires.step) ran.leaves.later
+      (stay_empty_then makes (g.P.Sweep.accounts.makes c.turns.sweep) step c.turns.going.step
+      (g.P.Sweep.accounts.next c.turns.sweep) (g.P.Sweep.accounts.next c.save_if_due.new.sweep)
+      (g.S.Shelf.world c.args.shelf.now) (g.S.Shelf.world c.turns.shelf) (g.S.Shelf.world c.save_if_due.new.shelf)
+      inv.made inv.going.step_is first.later (inv.untaken (first.changes.before told_s)) (first.untaken told_s))
+      (ran.leaves.untaken told)
 
   -- what is said of the last checkpoint, once turns were made
   turn_says : (c : After-run_some g) → IsTrue (g.S.Shelf.tells c.run_some.new.shelf) → (turns : ℕ)
@@ -552,6 +576,7 @@ turns-init g c =
       making = λ f mine. mine;
       step = refl;
       later = omega arith;
+      within_parts = λ few. few;
       owed = omega arith;
       few = λ told job remains. omega arith;
       covers = λ told covered. covered;
@@ -567,6 +592,7 @@ turns-init g c =
       says = λ told. inl (record { shown_is = refl; last_is = refl; gated_is = refl });
       changes = told_changed_none g.S.Shelf.tells g.S.Shelf.world (IsOfGoing made c.args.going.now.step) c.args.shelf.now;
       alone = λ told f alone. refl;
+      untaken = λ told f other free empty. empty;
       images = λ told job remains sure paid. images_none g.P.Sweep.saving laws.stays laws.apart made read c.args.going.now.step next c.args.going.now.sweep (g.P.Sweep.task c.args.sweep.now) job
           (c.args.going.now.turns + g.P.Sweep.left c.args.sweep.now (g.S.Shelf.world c.args.shelf.now) job) (g.S.Shelf.world c.args.shelf.now) (g.met.S.Shelf.files_are c.args.shelf.now told)
           (subst (λ s. IsOfStep made read s next) (sym c.requires.step) c.requires.files);
@@ -729,6 +755,13 @@ returns-then-eq-clause-changes g c = turn_changes g (goal.at.returns-then-eq-cla
 pub returns-then-eq-clause-alone : goal.returns-then-eq-clause-alone
 returns-then-eq-clause-alone g c = turn_alone g (goal.at.returns-then-eq-clause-alone g c).After-run_some
 
+pub returns-then-eq-clause-within : goal.returns-then-eq-clause-within
+returns-then-eq-clause-within g c = λ few.
+    c.in_ok-made.ensures.leaves.within (c.in_ok-save_if_due.ensures.within (c.turns.invariant.within_parts few))
+
+pub returns-then-eq-clause-untaken : goal.returns-then-eq-clause-untaken
+returns-then-eq-clause-untaken g c = turn_untaken g (goal.at.returns-then-eq-clause-untaken g c).In_ok-made
+
 pub returns-then-eq-clause-images : goal.returns-then-eq-clause-images
 returns-then-eq-clause-images g c = λ told job remains sure paid. (turn_stage g (goal.at.returns-then-eq-clause-images g c).After-run_some told job remains sure paid).images
 
@@ -796,6 +829,7 @@ turns-preserved g c =
       making = λ f mine. ran.leaves.making f (saved.making f (so_far.making f mine));
       step = ran.leaves.step_is ∙ saved.step ∙ so_far.step;
       later = let one = so_far.later in let two = saved.later in let three = ran.leaves.later in omega (arith, one, two, three);
+      within_parts = λ few. ran.leaves.within (saved.within (so_far.within_parts few));
       owed = save_owed g (goal.at.turns-preserved g c).In_ok-save_if_due;
       few = λ told job remains.
           let told_s = ran.leaves.content.before told in
@@ -834,6 +868,7 @@ turns-preserved g c =
       says = λ told. turn_says g (goal.at.turns-preserved g c).After-run_some told c.saturating_add-going.result;
       changes = turn_changes g (goal.at.turns-preserved g c).After-run_some;
       alone = turn_alone g (goal.at.turns-preserved g c).After-run_some;
+      untaken = turn_untaken g (goal.at.turns-preserved g c).In_ok-made;
       images = λ told job remains sure paid. (turn_stage g (goal.at.turns-preserved g c).After-run_some told job remains sure paid).images;
       come = λ told job remains sure paid. (turn_stage g (goal.at.turns-preserved g c).After-run_some told job remains sure paid).come;
       shows = turn_shows g (goal.at.turns-preserved g c).After-run_some;

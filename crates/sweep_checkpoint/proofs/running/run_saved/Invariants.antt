@@ -6,6 +6,7 @@ use Rattle.shelf_model.specs.Moments.{Ran, Throughout, OnlyChanged}
 use Rattle.shelf_model.specs.World.{now, file}
 use Rattle.file_numbers.specs.Files.{checkpoint_file}
 use Rattle.run_tiers.specs.Faults.{OnlySortShelf}
+use Rattle.sweep_core.specs.Accounts.{StayEmpty}
 use Rattle.sweep_checkpoint.specs.Saves.{gated_size, IsGateSure}
 use Rattle.sweep_checkpoint.specs.Retires.{first_taken}
 use Rattle.sweep_checkpoint.specs.Going.{IsOfGoing, IsLeftAlone, AreSure, SameGoing, IsPaidTo, interval_of, first_owed}
@@ -33,6 +34,7 @@ invariant-turns g l = record {
   making : (f : FileNo) → g.P.Sweep.accounts.makes l.fn.sweep f → g.P.Sweep.accounts.makes l.sweep f;
   step : g.P.Sweep.accounts.step l.sweep ≡ g.P.Sweep.accounts.step l.fn.sweep;
   later : g.P.Sweep.accounts.next l.fn.sweep ≤ g.P.Sweep.accounts.next l.sweep;
+  within_parts : g.P.Sweep.accounts.next l.fn.sweep ≤ 2 ^ 32 → g.P.Sweep.accounts.next l.sweep ≤ 2 ^ 32;
   owed : first_owed l.fn.going.last (g.P.Sweep.accounts.next l.fn.sweep) ≤ first_taken l.going.last;
   few : IsTrue (g.S.Shelf.tells l.shelf) → (job : g.P.Sweep.Job) → g.P.Sweep.remains l.fn.sweep (g.S.Shelf.world l.fn.shelf) job
       → l.going.turns + g.P.Sweep.left l.sweep (g.S.Shelf.world l.shelf) job
@@ -60,6 +62,8 @@ invariant-turns g l = record {
   alone : IsTrue (g.S.Shelf.tells l.shelf) → (f : FileNo)
       → IsLeftAlone (g.P.Sweep.accounts.makes l.fn.sweep) l.fn.going.step (g.P.Sweep.accounts.next l.fn.sweep) f
       → (file (g.S.Shelf.world l.shelf) f).bytes ≡ (file (g.S.Shelf.world l.fn.shelf) f).bytes;
+  untaken : IsTrue (g.S.Shelf.tells l.shelf) → StayEmpty (g.P.Sweep.accounts.makes l.fn.sweep) l.fn.going.step
+      (g.P.Sweep.accounts.next l.sweep) (g.S.Shelf.world l.fn.shelf) (g.S.Shelf.world l.shelf);
   images : IsTrue (g.S.Shelf.tells l.shelf) → (job : g.P.Sweep.Job) → g.P.Sweep.remains l.fn.sweep (g.S.Shelf.world l.fn.shelf) job
       → AreSure (g.P.Sweep.saving.operands (g.P.Sweep.task l.fn.sweep)) l.fn.going.step (now (g.S.Shelf.world l.fn.shelf)).folder
       → IsPaidTo g.P.Sweep.accounts l.fn.going l.fn.sweep

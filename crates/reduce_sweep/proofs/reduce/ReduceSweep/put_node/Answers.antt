@@ -2,7 +2,7 @@ use Rattle.std.proofs.Common.{◌-◌, ◌^◌, ◌∙◌, ap, sym, subst, refl,
 use Rattle.rec_words.specs.Words.{node_word}
 use Rattle.block_stream.specs.Writes.{count_of}
 use Rattle.node_file.specs.Writers.{filling_of}
-use Rattle.reduce_lists.proofs.Joining.{served_put, work_put, listed_put, own_wrote}
+use Rattle.reduce_lists.proofs.Joining.{served_put, work_put, listed_put, own_wrote, wrote_empty}
 use Rattle.reduce_lists.proofs.Refusing.{write_undamaged, damaged_anyhow}
 use Rattle.reduce_sweep.specs.declared.phase.Numbered.{Numbered}
 use Rattle.reduce_sweep.specs.declared.phase.Phase.TheVariants.{Number}
@@ -66,7 +66,9 @@ returns-clause-does g c = record {
     making = λ f e. e ∙ sym c.put.ensures.same.file_is;
     step_is = refl;
     later = omega arith;
+    within = λ few. few;
     content = own_wrote g.S.Shelf.tells g.S.Shelf.world _ _ _ 1 _ _ c.put.ensures.content;
+    untaken = λ told. wrote_empty _ _ _ 1 _ _ (c.put.ensures.content.did told);
     calls = λ told. (let few = (c.put.ensures.content.did told).few in omega (arith, few));
     spent = omega arith;
     faults = search rules;
@@ -90,7 +92,9 @@ returns-in_err-put-clause-does g c = record {
     making = λ f e. e ∙ sym c.put.ensures.same.file_is;
     step_is = refl;
     later = omega arith;
+    within = λ few. few;
     content = own_wrote g.S.Shelf.tells g.S.Shelf.world _ _ _ 1 _ _ c.put.ensures.content;
+    untaken = λ told. wrote_empty _ _ _ 1 _ _ (c.put.ensures.content.did told);
     calls = λ told. (let few = (c.put.ensures.content.did told).few in omega (arith, few));
     spent = omega arith;
     faults = search rules;

@@ -1,5 +1,6 @@
 use Rattle.std.proofs.Common.{◌∙◌, refl, sym, arith, rules}
 use Rattle.reduce_lists.specs.Damage.{IsListCause}
+use Rattle.reduce_lists.proofs.Joining.{wrote_empty}
 use Rattle.reduce_sweep.proofs.NodesSettled.{wrote_saved, settled_keeps, settled_nodes}
 use Rattle.reduce_sweep.proofs.SettleLaws.{write_spares}
 use Rattle.reduce_sweep.proofs.reduce.ReduceSweep.settle_nodes.Goals as goal
@@ -12,7 +13,9 @@ returns-clause-settles g c = record {
     making = λ f e. e ∙ sym c.settle.ensures.same.file_is;
     step_is = refl;
     later = omega arith;
+    within = λ few. few;
     content = wrote_saved g.S.Shelf.tells g.S.Shelf.world _ _ _ 2 _ _ c.settle.ensures.content;
+    untaken = λ told. wrote_empty _ _ _ 2 _ _ (c.settle.ensures.content.did told);
     calls = λ told. (let few = (c.settle.ensures.content.did told).few in omega (arith, few));
     spent = omega arith;
     faults = search rules;
@@ -44,7 +47,9 @@ returns-in_err-settle-clause-settles g c = record {
     making = λ f e. e ∙ sym c.settle.ensures.same.file_is;
     step_is = refl;
     later = omega arith;
+    within = λ few. few;
     content = wrote_saved g.S.Shelf.tells g.S.Shelf.world _ _ _ 2 _ _ c.settle.ensures.content;
+    untaken = λ told. wrote_empty _ _ _ 2 _ _ (c.settle.ensures.content.did told);
     calls = λ told. (let few = (c.settle.ensures.content.did told).few in omega (arith, few));
     spent = omega arith;
     faults = search rules;
