@@ -1,5 +1,5 @@
 -- What is held stays while runs are made sure, and what a freeze of the queue, of the rows or of the names leaves.
-use Rattle.std.proofs.Common.{◌≡◌, ◌∙◌, ◌≤◌, List, arith, ap, sym, subst, inl, inr}
+use Rattle.std.proofs.Common.{◌≡◌, ◌∙◌, List, ap, sym, subst}
 use Rattle.std.specs.Prelude.{Result, Ok, Err, OnOk, IfOk, IfErr, length}
 use Rattle.shelf_model.specs.declared.file_no.FileNo.{FileNo}
 use Rattle.shelf_model.specs.declared.sort_fault.SortFault.{SortFault}
@@ -15,8 +15,6 @@ use Rattle.run_merge.specs.declared.sorter.Sorter.{Sorter}
 use Rattle.run_merge.specs.Sorters as sorters
 use Rattle.level_queue.specs.declared.queue.LevelQueue.{LevelQueue}
 use Rattle.level_queue.specs.Queues as queues
-use Rattle.node_file.specs.declared.writer.NodeWriter.{NodeWriter}
-use Rattle.node_file.specs.Writers as writers
 use Rattle.arc_file.specs.declared.kind.Kind.TheVariants.{Inner, End}
 use Rattle.arc_file.specs.Readers.{inner_of, ends_of}
 use Rattle.arc_file.specs.Streams as streams
@@ -25,8 +23,6 @@ use Rattle.arc_diagrams.specs.declared.source_row.SourceRow.{SourceRow}
 use Rattle.arc_diagrams.specs.declared.name.Name.{Name}
 use Rattle.sweep_core.specs.Accounts.{CanBeTaken}
 use Rattle.sweep_core.specs.Sweeps.{IsNoDamage}
-use Rattle.reduce_lists.specs.declared.held.Ahead.{Ahead}
-use Rattle.reduce_lists.specs.declared.held.Lists.{Lists}
 use Rattle.reduce_lists.specs.Held.{Held, AreServed}
 use Rattle.reduce_lists.specs.AtWork.{AreListed, IsAtWork}
 use Rattle.reduce_lists.specs.Contents.{Contents, Holds, QueueLists, RowLists, NameLists}

@@ -1,18 +1,16 @@
 -- What the operands' files know is kept by each call: of the pointers that an ask names, and of those that come of them.
-use Rattle.std.proofs.Common.{◌≡◌, ℕ, zero, suc, ◌+◌, ◌-◌, ◌*◌, ◌/◌, ◌≤◌, ◌<◌, ◌∙◌, Bool, true, false, cond, List, [], length, refl, sym, subst, ap, inl, inr, arith}
+use Rattle.std.proofs.Common.{◌≡◌, ℕ, zero, suc, ◌-◌, ◌/◌, ◌<◌, ◌∙◌, Bool, true, false, cond, List, [], length, refl, sym, subst, ap, inl, inr, arith}
 use Rattle.std.specs.Prelude.{◌⊎◌, Option, Some, None, Result, IfSome, IsTrue, slice_index, ◌==◌, ◌&&◌}
-use Rattle.rec_words.specs.Words.{IsTerminal, IsNodeWord}
 use Rattle.rec_words.specs.declared.node.Node.{Node}
 use Rattle.shelf_model.specs.declared.file_no.FileNo.{FileNo}
 use Rattle.shelf_model.specs.declared.sort_fault.SortFault.{SortFault}
 use Rattle.shelf_model.specs.Faults.{Faults}
 use Rattle.shelf_model.specs.World.{World, now, file}
 use Rattle.shelf_model.proofs.Runs.{ran_end}
-use Rattle.block_stream.specs.Records.{record_at}
 use Rattle.node_file.specs.declared.reader.NodeReader.{NodeReader}
-use Rattle.node_file.specs.Nodes.{identifier_at, IsNodeAt}
-use Rattle.node_file.specs.Readers.{trailer_of, left_of, file_of}
-use Rattle.node_reading.specs.Missing.{IsKnown, IsThere}
+use Rattle.node_file.specs.Nodes.{IsNodeAt}
+use Rattle.node_file.specs.Readers.{trailer_of}
+use Rattle.node_reading.specs.Missing.{IsKnown}
 use Rattle.node_reading.specs.Reading.{bytes_of, count_of, IsReading}
 use Rattle.sweep_core.specs.Accounts.{OnlyOwn}
 use Rattle.sweep_core.specs.Carries.{OnlySaved, Carries}

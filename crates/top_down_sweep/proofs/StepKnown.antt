@@ -4,7 +4,7 @@ use Rattle.bool_tables.specs.declared.steps.Bin.{Bin}
 use Rattle.bool_tables.specs.declared.steps.Quant.{Quant}
 use Rattle.node_reading.specs.Missing.{IsKnown}
 use Rattle.top_down.specs.declared.tuple.Tuple.{Tuple}
-use Rattle.top_down.specs.Operations.{two, quantify_rule}
+use Rattle.top_down.specs.Operations.{quantify_rule}
 use Rattle.top_down.specs.Rules.{Rule}
 use Rattle.top_down.specs.Tuples.{unused}
 use Rattle.top_down_laws.proofs.PickLaws.{AreOf, PicksOf, product_of, choice_of, quantify_of, restrict_of}

@@ -1,5 +1,5 @@
 -- Where an operand's file is damaged.
-use Rattle.std.specs.Prelude.{◌≡◌, ◌⊎◌, ℕ, ◌+◌, ◌*◌, ◌<◌, true, List, Some}
+use Rattle.std.specs.Prelude.{◌≡◌, ◌⊎◌, ℕ, true, Some}
 use Rattle.rec_words.specs.Words.{IsNodeWord}
 use Rattle.file_numbers.specs.Files.{checkpoint_file}
 use Rattle.shelf_model.specs.declared.file_no.FileNo.{FileNo}

@@ -1,8 +1,7 @@
 -- The files of a task's diagrams know all that its asks name.
-use Rattle.std.proofs.Common.{◌≡◌, ℕ, suc, ◌+◌, ◌^◌, ◌≤◌, ◌<◌, ◌∙◌, Bool, true, false, cond, List, [], ◌∷◌, length, refl, sym, subst, ap, inl, inr, arith}
-use Rattle.std.specs.Prelude.{Option, Some, None, IfSome, get_or, nat_lt, slice_index}
+use Rattle.std.proofs.Common.{◌≡◌, ℕ, suc, ◌+◌, ◌^◌, ◌<◌, ◌∙◌, Bool, true, false, cond, List, [], ◌∷◌, length, refl, sym, subst, ap, inl, inr, arith}
+use Rattle.std.specs.Prelude.{Option, Some, None, get_or, nat_lt, slice_index}
 use Rattle.std.proofs.lemmas.Bool.{ltb-true}
-use Rattle.rec_words.specs.Words.{level_of}
 use Rattle.rec_words.specs.Records.{node_words, IsNode}
 use Rattle.rec_words.specs.declared.node.Node.{Node}
 use Rattle.shelf_model.specs.World.{World}
@@ -14,10 +13,9 @@ use Rattle.block_stream.proofs.ItemLaws.{nth_item}
 use Rattle.node_file.specs.Nodes.{HasNodes}
 use Rattle.node_file.proofs.FileLaws.{items_of_file, count_of_file}
 use Rattle.node_reading.specs.Missing.{IsThere, IsKnown}
-use Rattle.node_reading.specs.Reading.{count_of}
 use Rattle.top_down.specs.declared.tuple.Tuple.{Tuple}
-use Rattle.top_down_laws.specs.Forms.{Form, member_at}
-use Rattle.top_down_laws.specs.Readings.{Diagrams, IsIn, IsReduced, IsReading, Reading, Readings, AreReadings}
+use Rattle.top_down_laws.specs.Forms.{member_at}
+use Rattle.top_down_laws.specs.Readings.{IsIn, IsReduced, IsReading, Reading, Readings, AreReadings}
 use Rattle.top_down_laws.specs.Remains as laws
 use Rattle.top_down_laws.proofs.MemberLaws.{row_at-node, node_in, hand_in}
 use Rattle.top_down_sweep.specs.declared.ask.Member.{Member}

@@ -42,7 +42,7 @@ use Rattle.top_down_sweep.specs.KnowingLaws.{AreOfTask, open_known, hands_known}
 use Rattle.top_down_sweep.specs.Waiting.{IsReadTo, Fits, KnowsAsk, AreReading, Holds, HoldsSome, HoldsFirst}
 use Rattle.top_down_sweep.specs.Ordered.{AreOrdered, source_word, ArePutTo, ArePut}
 use Rattle.top_down_sweep.specs.Meaning.{Task, waiting_of, numbered_of, Contents, StandsFor, IsLeft, IsWorking, IsHandling, IsFresh, IsMadeOf, RemainsIn, RemainsOf, Remains}
-use Rattle.top_down_sweep.specs.Calls.{HoldsAsks, IsTrustedAt, IsMachineTrusted, IsTrusted}
+use Rattle.top_down_sweep.specs.Calls.{IsTrustedAt, IsMachineTrusted, IsTrusted}
 
 -- no node at hand lies behind the key of an ask that waits
 hand_to : (o : Operand) (hand : Option Node) (k l : ℕ) → o.hand ≡ hand → k ≡ l → IsUpToHand hand k

@@ -1,5 +1,5 @@
 use Rattle.top_down_sweep.specs.Meaning.{first_contents}
-use Rattle.std.proofs.Common.{◌+◌, ◌*◌, ◌≡◌, ap, inl, ◌∙◌, [], false, refl, sym, subst, arith}
+use Rattle.std.proofs.Common.{◌+◌, ◌*◌, ◌≡◌, ap, inl, ◌∙◌, false, refl, sym, subst}
 use Rattle.std.specs.Prelude.{length}
 use Rattle.top_down_sweep.proofs.TurnNumbers.{unread_is}
 use Rattle.top_down_laws.specs.Laws.{unread_all}
