@@ -46,7 +46,7 @@ use Rattle.script_runner.proofs.Shown.{same_entries, still_shown}
 use Rattle.script_runner.proofs.RunSteps.{IsPlan, AtStep, done_at, held_steps, taking}
 use Rattle.script_runner.proofs.Taking.{JobStays, AllHave, dropping, cut_file, ready_same, taking_first, taking_same}
 use Rattle.script_runner.proofs.Needed.{needed, needed_is, KeepsNeeded, paid_same, before, before_image, before_same, holds_needed}
-use Rattle.script_runner.specs.Tidied.{last_of, IsCutLast, TidiedLast, TidyCosts, IsEmptiedBy, tidied_to, last_calls}
+use Rattle.script_runner.specs.Tidied.{last_step, IsCutLast, TidiedLast, TidyCosts, IsEmptiedBy, tidied_to, last_calls}
 
 -- the cuts of any step are at most so many calls
 last_few : (step : Step) (e : Entry) → last_calls step e ≤ 66127
@@ -62,7 +62,7 @@ last_few step e = by_tests (nat_lt e.turns 16) (sweeps step)
 module _ {S : Type 0} (tells : S → Bool) (world : S → World) (steps : List Planned) (done : ℕ) (some : 0 < done) (e : Entry) (old s t : S)
     (read : Told tells old s (Ran (Stays (now (world old))) (world old) (world s)))
     (entry : IsTrue (tells s) → IsEntryOf (done - 1) (present (now (world old)).folder) e) where
-  pub read_and_tidied : (next : ℕ) → Told tells s t (Ran (OnlyTidied (last_of steps done) e.number next (now (world s))) (world s) (world t))
+  pub read_and_tidied : (next : ℕ) → Told tells s t (Ran (OnlyTidied (last_step steps done) e.number next (now (world s))) (world s) (world t))
       → Told tells old t (Ran (TidiedLast steps done (now (world old))) (world old) (world t))
   read_and_tidied next cuts = record {
     before = λ told. read.before (cuts.before told);
@@ -75,8 +75,8 @@ module _ {S : Type 0} (tells : S → Bool) (world : S → World) (steps : List P
           only = λ f apart. ap (λ folder. file_in folder f) stood;
           stays = λ f none. ap (λ folder. (file_in folder f).bytes) stood ∙ none;
         }) stays)
-        (ran_weakens (world s) (world t) (OnlyTidied (last_of steps done) e.number next (now (world s))) P (λ m tidied. record {
-          only = λ f apart. tidied.only f (λ cut. apart (some, next, subst (λ n. IsCutBy (last_of steps done) n next f) number cut))
+        (ran_weakens (world s) (world t) (OnlyTidied (last_step steps done) e.number next (now (world s))) P (λ m tidied. record {
+          only = λ f apart. tidied.only f (λ cut. apart (some, next, subst (λ n. IsCutBy (last_step steps done) n next f) number cut))
               ∙ ap (λ folder. file_in folder f) same;
           stays = λ f none. tidied.stays f (ap (λ folder. (file_in folder f).bytes) same ∙ none);
         }) (cuts.did told));
@@ -86,9 +86,9 @@ module _ {S : Type 0} (tells : S → Bool) (world : S → World) (steps : List P
       P = TidiedLast steps done (now (world old))
 
   pub read_and_tidied_calls : IsTrue (tells s) → (world s).clock ≤ (world old).clock + 1
-      → (world t).clock ≤ (world s).clock + last_calls (last_of steps done) e → TidyCosts steps done (world old) (world t)
+      → (world t).clock ≤ (world s).clock + last_calls (last_step steps done) e → TidyCosts steps done (world old) (world t)
   read_and_tidied_calls told one cuts =
-      let few = last_few (last_of steps done) e in
+      let few = last_few (last_step steps done) e in
       record {
         most = omega (arith, one, cuts, few);
         none = λ is. absurd (omega (arith, is, some));
@@ -97,8 +97,8 @@ module _ {S : Type 0} (tells : S → Bool) (world : S → World) (steps : List P
 
   -- what was to be emptied is empty
   pub read_and_emptied : IsTrue (tells s) → (other : Entry) → IsEntryOf (done - 1) (present (now (world old)).folder) other
-      → ((gone : ℕ) → last_of steps done ≡ Drop gone → (file_in (now (world t)).folder (node_file gone)).bytes ≡ [])
-      → (IsTrue (sweeps (last_of steps done)) → (last : Option Checkpoint) → IsLastPoint e.number (present (now (world s)).folder) last
+      → ((gone : ℕ) → last_step steps done ≡ Drop gone → (file_in (now (world t)).folder (node_file gone)).bytes ≡ [])
+      → (IsTrue (sweeps (last_step steps done)) → (last : Option Checkpoint) → IsLastPoint e.number (present (now (world s)).folder) last
       → (f : FileNo) → IsLeftBehind e.number (tidied_to e) last f → (file_in (now (world t)).folder f).bytes ≡ [])
       → IsEmptiedBy steps done other (now (world old)).folder (now (world t)).folder
   read_and_emptied told other is dropped swept = record {
@@ -160,7 +160,7 @@ module _ (job : Job) (plan : IsWellFormed job.n job.text job.steps) (count : ℕ
   cut_below f (some, next, cut) =
       let within : count - 1 < length job.steps = omega (arith, some, upto) in
       let low : f.step ≤ count - 1 =
-      cut_file (last_of job.steps count) (count - 1) next f (may_run job.n job.text job.steps (count - 1) no_step within plan).operands_are cut in
+      cut_file (last_step job.steps count) (count - 1) next f (may_run job.n job.text job.steps (count - 1) no_step within plan).operands_are cut in
       omega (arith, some, low)
 
   -- and none that a run needs
@@ -236,18 +236,18 @@ module _ (job : Job) (plan : IsWellFormed job.n job.text job.steps) (count : ℕ
       → new.clock ≤ mid.clock + step_calls job (get_or job.steps (count - 1) no_step)
   last_paid paid old mid new some counted holds costs = elim costs.few [
     | inl one ↦
-        let more = step_calls_some (sweeps (last_of job.steps count)) (work_of job (last_of job.steps count)) in
+        let more = step_calls_some (sweeps (last_step job.steps count)) (work_of job (last_step job.steps count)) in
         omega (arith, one, more)
     | inr (e, stands, few) ↦
         let within : count - 1 < length job.steps = omega (arith, some, upto) in
         elim counted [
           | inl each ↦
-              let more = step_calls_some (sweeps (last_of job.steps count)) (work_of job (last_of job.steps count)) in
-              let least = last_unswept (last_of job.steps count) e (each (count - 1) within) in
+              let more = step_calls_some (sweeps (last_step job.steps count)) (work_of job (last_step job.steps count)) in
+              let least = last_unswept (last_step job.steps count) e (each (count - 1) within) in
               omega (arith, few, more, least)
           | inr (sound, pays) ↦
               let is : IsEntryOfStep job (count - 1) e = held_entry job count (count - 1) (now mid).folder e (holds sound) (omega (arith, some)) stands in
-              let least = last_within (last_of job.steps count) e (work_of job (last_of job.steps count)) is.turns_are.0 is.turns_are.1 is.parts_are.2 in
+              let least = last_within (last_step job.steps count) e (work_of job (last_step job.steps count)) is.turns_are.0 is.turns_are.1 is.parts_are.2 in
               omega (arith, few, least)
         ]
   ]
@@ -312,5 +312,5 @@ tidied_at job lines plan old files step rest mid new mid_files at all_said run =
     undropped k none (some, next, inl (gone, dropped, is)) =
         let same : gone ≡ k = ap (λ (q : FileNo). q.step) (sym is) in
         let reached = at.reached in
-        none (step - 1) (omega (arith, reached)) (omega (arith, some)) (dropping gone (last_of job.steps step) dropped ∙ ap Drop same)
+        none (step - 1) (omega (arith, reached)) (omega (arith, some)) (dropping gone (last_step job.steps step) dropped ∙ ap Drop same)
     undropped k none (some, next, inr (swept, own)) = let no : 1 ≤ 0 = own.from in omega (arith, no)

@@ -20,12 +20,12 @@ use Rattle.step_engine.specs.LeftBehind.{IsLastPoint, IsLeftBehind}
 use Rattle.script_runner.specs.Calls.{cut_calls}
 
 -- the last of so many steps
-abbrev pub last_of : List Planned → ℕ → Step
-last_of steps done = (get_or steps (done - 1) no_step).step
+abbrev pub last_step : List Planned → ℕ → Step
+last_step steps done = (get_or steps (done - 1) no_step).step
 
 -- a file that is cut where the last of so many committed steps is tidied up, with some next part
 abbrev pub IsCutLast : List Planned → ℕ → FileNo → Type 0
-IsCutLast steps done f = (0 < done) × (next : ℕ) × IsCutBy (last_of steps done) (done - 1) next f
+IsCutLast steps done f = (0 < done) × (next : ℕ) × IsCutBy (last_step steps done) (done - 1) next f
 
 -- no other file changed, and what held no byte holds none
 pub record TidiedLast (steps : List Planned) (done : ℕ) (old m : Moment) : Type 0 where
@@ -40,22 +40,22 @@ tidied_to e = cond (nat_lt e.turns 16) first_run_part e.parts
 abbrev pub last_calls : Step → Entry → ℕ
 last_calls step e = cond (nat_lt e.turns 16) (cond (sweeps step) 4 1) (cut_calls true step e.parts)
 
--- the calls are 66,128 at most: none where no step is committed, and else one that reads its entry, and those of the cuts
--- where that stands whole at its place
+-- the calls are 66,128 at most: none where no step is committed, and else one that reads its entry, and those of the
+-- cuts where that stands whole at its place
 pub record TidyCosts (steps : List Planned) (done : ℕ) (old new : World) : Type 0 where
   pub most : new.clock ≤ old.clock + 66128
   pub none : done ≡ 0 → new.clock ≤ old.clock
   pub few : (new.clock ≤ old.clock + 1) ⊎ ((e : Entry) × IsEntryOf (done - 1) (present (now old).folder) e
-      × (new.clock ≤ old.clock + (1 + last_calls (last_of steps done) e)))
+      × (new.clock ≤ old.clock + (1 + last_calls (last_step steps done) e)))
 
--- what is emptied by the entry of the last of so many committed steps: the file of the diagram that it drops, or of a step
--- that swept what one leaves behind that went on from its last gated checkpoint
+-- what is emptied by the entry of the last of so many committed steps: the file of the diagram that it drops, or of a
+-- step that swept what one leaves behind that went on from its last gated checkpoint
 pub record IsEmptiedBy (steps : List Planned) (done : ℕ) (e : Entry) (old new : Folder) : Type 0 where
-  pub dropped : (gone : ℕ) → last_of steps done ≡ Drop gone → (file_in new (node_file gone)).bytes ≡ []
-  pub swept : IsTrue (sweeps (last_of steps done)) → (last : Option Checkpoint) → IsLastPoint (done - 1) (present old) last
+  pub dropped : (gone : ℕ) → last_step steps done ≡ Drop gone → (file_in new (node_file gone)).bytes ≡ []
+  pub swept : IsTrue (sweeps (last_step steps done)) → (last : Option Checkpoint) → IsLastPoint (done - 1) (present old) last
       → (f : FileNo) → IsLeftBehind (done - 1) (tidied_to e) last f → (file_in new f).bytes ≡ []
 
 -- so it is where such an entry stands whole at its place
 abbrev pub EmptiesLast : List Planned → ℕ → Folder → Folder → Type 0
-EmptiesLast steps done old new = 0 < done → (e : Entry) → IsEntryOf (done - 1) (present old) e → e.kind ≡ kind_of (last_of steps done)
+EmptiesLast steps done old new = 0 < done → (e : Entry) → IsEntryOf (done - 1) (present old) e → e.kind ≡ kind_of (last_step steps done)
     → IsEmptiedBy steps done e old new
