@@ -12,8 +12,8 @@ pub record DuringWrites (f g : FileNo) (old m : Moment) : Type 0 where
   pub first_kept : (front : List ℕ) → IsKept front (file_in old.folder f) → IsKept front (file_in m.folder f)
   pub second_kept : (front : List ℕ) → IsKept front (file_in old.folder g) → IsKept front (file_in m.folder g)
 
--- at each moment every other file is as it was, and up to a length of each these two read as they did, and what was sure
--- of them is sure
+-- at each moment every other file is as it was, and up to a length of each these two read as they did, and what was
+-- sure of them is sure
 pub record DuringCuts (f : FileNo) (to : ℕ) (g : FileNo) (until : ℕ) (old m : Moment) : Type 0 where
   pub others : (q : FileNo) → q ≢ f → q ≢ g → file_in m.folder q ≡ file_in old.folder q
   pub first_reads : (n : ℕ) → n ≤ to → take n (file_in m.folder f).bytes ≡ take n (file_in old.folder f).bytes

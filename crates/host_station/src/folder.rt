@@ -248,9 +248,9 @@ impl<F: FileExt + OpenFile + Drop> Folder<F> {
 
     /// Makes a file that isn't there, and answers the place of its handle.
     ///
-    /// With a step's arcs the files are made that it writes after them, with arcs and with a node file the node files of
-    /// later steps, with a checkpoint its gate, and with a run the step's checkpoints and the next runs, so that one sync
-    /// of the folder covers all their names. They are empty, as those are that aren't there.
+    /// With a step's arcs the files are made that it writes after them, with arcs and with a node file the node files
+    /// of later steps, with a checkpoint its gate, and with a run the step's checkpoints and the next runs, so that one
+    /// sync of the folder covers all their names. They are empty, as those are that aren't there.
     fn make<R: Files<File = F>>(&mut self, rt: &R, f: FileNo) -> io::Result<usize>
         ensures { IfOk result (λ i. i < vec_len self.new.handles.all) }
     {

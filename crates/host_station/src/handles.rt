@@ -150,8 +150,8 @@ fn turn_of(f: FileNo) -> usize
     (u64::from(f.step).wrapping_add(f.part) % PLACES as u64) as usize
 }
 
-/// The handle with the least rank is given up first, after so many calls. Files that are read in turn would be opened at
-/// each call if one of them were given up for the next.
+/// The handle with the least rank is given up first, after so many calls. Files that are read in turn would be opened
+/// at each call if one of them were given up for the next.
 fn rank_of<F>(handle: &Handle<F>, calls: u64) -> (bool, u64) {
     let is_in_use = calls.saturating_sub(handle.used) < CALLS_IN_USE;
     (handle.is_changed || is_in_use, handle.used)

@@ -1,5 +1,5 @@
--- What three tables and the last item taken stand for. The queue keeps its items in one sorter, whose table is the first;
--- the others are empty.
+-- What three tables and the last item taken stand for. The queue keeps its items in one sorter, whose table is the
+-- first; the others are empty.
 use Rattle.std.specs.Prelude.{ℕ, List, All, Option, slice_index_or}
 use Rattle.std.specs.declared.cmp.Ordering.{Ordering}
 use Rattle.shelf_model.specs.declared.file_no.FileNo.{FileNo}

@@ -71,7 +71,8 @@ pub record IsWhole (n : ℕ) (bytes : List ℕ) : Type 0 where
   pub nodes : (k : ℕ) → k < count_of bytes → (x : Node) × IsNodeAt n k bytes x
   pub ordered : (k : ℕ) → k + 1 < count_of bytes → identifier_at (k + 1) bytes < identifier_at k bytes
 
--- a call of the folder failed, the file has no trailer for n variables where one had to stand, or a node of it is damaged
+-- a call of the folder failed, the file has no trailer for n variables where one had to stand, or a node of it is
+-- damaged
 abbrev pub IsWholeFault : ℕ → FileNo → World → SortFault → Type 0
 IsWholeFault n f world Shelf = Unit
 IsWholeFault n f world (Damaged g at) = IsTrailerFault f n world (Damaged g at)

@@ -519,8 +519,8 @@ const EARLY_DROP_STOPPED: &[Act] = &[
     Act::Words(FIRST, NEVER),
 ];
 
-/// What a stop kept a run from cutting behind a step's commit is cut by the next run, unless the entry of the step isn't
-/// whole, whose kind is its fifth byte.
+/// What a stop kept a run from cutting behind a step's commit is cut by the next run, unless the entry of the step
+/// isn't whole, whose kind is its fifth byte.
 const LEFT: [Case; 5] = [
     (
         "a diagram that the last step drops",

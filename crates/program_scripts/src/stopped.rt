@@ -21,8 +21,8 @@ const MORE: [&str; 7] = [
 /// The words of a run.
 type Words = &'static [&'static str];
 
-/// Three runs, of which the first is stopped once the largest step has two checkpoints, and the second once it has four;
-/// and the records of the rooms in which these were saved.
+/// Three runs, of which the first is stopped once the largest step has two checkpoints, and the second once it has
+/// four; and the records of the rooms in which these were saved.
 #[derive(Clone, Copy, Debug)]
 struct Runs {
     first: Words,

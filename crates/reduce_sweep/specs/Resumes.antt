@@ -76,8 +76,8 @@ pub record Fits (c : Checkpoint) : Type 0 where
   pub phase_is : phase_of saved.phase ≡ Some phase
   pub rules : KeepsRules c saved phase
 
--- a reduction rests on the arc files of which arcs are left, on the nodes that are kept, and on the runs that its tables
--- name, up to where they end
+-- a reduction rests on the arc files of which arcs are left, on the nodes that are kept, and on the runs that its
+-- tables name, up to where they end
 abbrev pub IsArcRest : Saved → FileNo → Type 0
 IsArcRest x f = ((f ≡ x.arcs.inner) × (0 < x.arcs.inner_count)) ⊎ ((f ≡ x.arcs.ends) × (0 < x.arcs.ends_count))
 

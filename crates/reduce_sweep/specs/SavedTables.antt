@@ -28,8 +28,8 @@ pub record IsSavedTable (c : Checkpoint) (part : ℕ) (table : RunTable) : Type 
   pub served : ServeTable (parts_left c) table
   pub apart : All (λ r. IsInUse r → r.part ≢ part) table.runs
 
--- five tables are in use: three of the queue, of which the second and the third are empty, that of the rows, and that of
--- the names
+-- five tables are in use: three of the queue, of which the second and the third are empty, that of the rows, and that
+-- of the names
 pub record AreSavedTables (c : Checkpoint) (part : ℕ) : Type 0 where
   pub count : c.tables ≡ 5
   pub each : (k : ℕ) → k < 5 → IsSavedTable c part (table_at (tables_of c) k)

@@ -18,8 +18,8 @@ use saved_words::words_of;
 use shelf_model::FileNo;
 use sweep_core::{Checkpoint, fill_without_runs};
 
-/// Fills a checkpoint, whose step stands there, as that of a reduction that has ended with so many nodes: of a file that
-/// was made without a sweep, to which a step may go on from there.
+/// Fills a checkpoint, whose step stands there, as that of a reduction that has ended with so many nodes: of a file
+/// that was made without a sweep, to which a step may go on from there.
 pub fn ended_point(into: &mut Checkpoint, out: FileNo, variables: u32, count: u64, next_part: u64)
     requires few { count < 2 ^ 46 }
     ensures head { SameHead into.old into.new }

@@ -38,7 +38,8 @@ impl<'r> ReduceSweep<'r> {
         saved.keeps_rules(&phase, point)
     }
 
-    /// Whether a checkpoint says that the nodes of a diagram of `n` variables are put into that file. It takes no memory.
+    /// Whether a checkpoint says that the nodes of a diagram of `n` variables are put into that file. It takes no
+    /// memory.
     pub fn names(point: &Checkpoint, out: FileNo, n: u32) -> bool
         ensures { IsTrue result ↔ Makes point.now out n }
     {

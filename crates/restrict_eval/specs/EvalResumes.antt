@@ -56,8 +56,8 @@ saved_of s = record {
   answer = answer_at s.state;
 }
 
--- the file is one that the step may read, and has no more nodes than the longest one; the bits lie in the text; and it is said how
--- far the path was followed
+-- the file is one that the step may read, and has no more nodes than the longest one; the bits lie in the text; and it
+-- is said how far the path was followed
 pub record KeepsRules (c : Checkpoint) (text : List ℕ) (x : SavedEval) : Type 0 where
   pub parts : inner_part ≤ c.next_part
   pub other : IsReadPart c.step c.next_part x.unread.file

@@ -34,8 +34,8 @@ impl<'r> EvalSweep<'r> {
         }
     }
 
-    /// Whether a checkpoint says that this file of `n` variables is evaluated, at the bits from that byte of the text on.
-    /// It takes no memory.
+    /// Whether a checkpoint says that this file of `n` variables is evaluated, at the bits from that byte of the text
+    /// on. It takes no memory.
     pub fn names(point: &Checkpoint, n: u32, file: FileNo, at: u32) -> bool
         ensures { IsTrue result ↔ Evaluates point.now n file at }
     {

@@ -34,8 +34,8 @@ found_damage step sort.Shelf = false
 found_damage step (sort.Damaged f at) = sweeps step
 found_damage step sort.RunsSpent = false
 
--- the step began anew at a moment of these calls, at which none of its checkpoints was gated, and its fault as the folder
--- stood then is that place
+-- the step began anew at a moment of these calls, at which none of its checkpoints was gated, and its fault as the
+-- folder stood then is that place
 pub record BeganAnew (n number : ℕ) (step : Step) (f : FileNo) (at : ℕ) (old new : World) : Type 0 where
   pub began : ℕ
   pub since : old.clock ≤ began
@@ -59,8 +59,8 @@ IsFound n number step old new (sort.Damaged f at) =
     ⊎ (IsTrue (sweeps step) × (BeganAnew n number step f at old new ⊎ LackedPoint number f at old new))
 IsFound n number step old new sort.RunsSpent = Unit
 
--- the step was made, or refused: as one run of it says, but for the place of damage. A step that was run once more is none
--- whose steps before the folder held
+-- the step was made, or refused: as one run of it says, but for the place of damage. A step that was run once more is
+-- none whose steps before the folder held
 pub record MakesStep {S : Type 0} (tells : S → Bool) (world : S → World) (counts : S → Faults) (n : ℕ) (text : List ℕ)
     (number : ℕ) (p : Planned) (before after : S) (result : Result Entry SortFault) : Type 0 where
   pub content : Told tells before after (Ran (OnlyMade p.step number (now (world before))) (world before) (world after))

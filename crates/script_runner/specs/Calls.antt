@@ -36,8 +36,8 @@ abbrev pub cut_calls : Bool → Step → ℕ → ℕ
 cut_calls false step next = cond (sweeps step) (parts_end next - 1) 1
 cut_calls true step next = cond (sweeps step) (591 + min (parts_end next - 5) most_cut) 1
 
--- so many calls pay for going on from the last checkpoint of step k, where it has one, for 1,019 part numbers that it may
--- have taken before, and for 587 that find and cut what it leaves behind then
+-- so many calls pay for going on from the last checkpoint of step k, where it has one, for 1,019 part numbers that it
+-- may have taken before, and for 587 that find and cut what it leaves behind then
 abbrev pub PaysStep : Job → ℕ → Folder → ℕ → Type 0
 PaysStep job k folder rest = PaysRest (step_at job k).step k (present folder) (rest - 1606)
 
@@ -46,8 +46,8 @@ abbrev pub PaysFirst : Job → Folder → ℕ → Type 0
 PaysFirst job folder rest = count_in (present folder) < length job.steps
     → PaysStep job (count_in (present folder)) folder rest
 
--- the turns of the step are bounded: it takes one, or the folder holds the steps before it, it is known whether something
--- is gated of it, and so many calls pay for going on with it
+-- the turns of the step are bounded: it takes one, or the folder holds the steps before it, it is known whether
+-- something is gated of it, and so many calls pay for going on with it
 abbrev pub IsCounted : Job → ℕ → Bool → Folder → ℕ → Type 0
 IsCounted job k gated folder rest = (sweeps (step_at job k).step ≡ false)
     ⊎ (Holds job k folder × IsGated gated k folder × PaysStep job k folder rest)

@@ -137,8 +137,8 @@ pub record IsEntryDamage (steps : List Planned) (f : FileNo) (at : ℕ) (r : Fil
 abbrev pub stood_after : ℕ → World → World
 stood_after calls world = record world { clock = calls }
 
--- a step that sweeps found that place damaged: it began anew at a moment of the run at which exactly the steps before it
--- were committed and none of its checkpoints was gated, and that is its fault as the folder stood then
+-- a step that sweeps found that place damaged: it began anew at a moment of the run at which exactly the steps before
+-- it were committed and none of its checkpoints was gated, and that is its fault as the folder stood then
 pub record IsSweepDamage (n : ℕ) (steps : List Planned) (f : FileNo) (at : ℕ) (first : Folder)
     (old new : World) : Type 0 where
   pub step : ℕ

@@ -91,9 +91,9 @@ pub record StopsIn (job : Job) (lines besides : ℕ) (old new : World) : Type 0 
   pub pays : (paid rest : ℕ) → IsPaidRun job lines paid rest (now old).folder
       → PaysThrough job paid (old.clock + (besides + rest)) old new
 
--- what is known of a step that is taken: the folder holds those before it, and whether something is gated of it; its work
--- is bounded, each image pays for so many calls, and so many more pay for going on from its last checkpoint, where it has
--- one, and for cutting what it leaves behind then
+-- what is known of a step that is taken: the folder holds those before it, and whether something is gated of it; its
+-- work is bounded, each image pays for so many calls, and so many more pay for going on from its last checkpoint, where
+-- it has one, and for cutting what it leaves behind then
 pub record IsPaidStep (job : Job) (k : ℕ) (is_gated : Bool) (paid rest : ℕ) (folder : Folder) : Type 0 where
   pub holds : Holds job k folder
   pub gated : IsGated is_gated k folder

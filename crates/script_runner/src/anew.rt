@@ -51,8 +51,8 @@ pub(crate) fn run_or_begin_anew<S: Shelf>(
     }
 }
 
-/// Sets aside what is gated of a step, so that it begins anew when it is run. A last checkpoint that is damaged is named
-/// instead, and stays.
+/// Sets aside what is gated of a step, so that it begins anew when it is run. A last checkpoint that is damaged is
+/// named instead, and stays.
 fn set_aside<S: Shelf>(number: u32, shelf: &mut S) -> Result<(), StreamFault>
     ensures content { Told S.tells shelf.old shelf.new
         (Ran (OnlyFile (checkpoint_gate number) (now (S.world shelf.old))) (S.world shelf.old) (S.world shelf.new)) }

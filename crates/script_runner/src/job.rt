@@ -1,8 +1,8 @@
 //! The bytes of a job, which a folder stores to tell it from others.
 //!
 //! Numbers have the highest byte first: `ADIARJ01` at 0 (8 bytes), the records of the room of the run that wrote them
-//! at 8 (4 bytes), which tell no job from another, the length of the script at 12 (4), that of the netlist at 16 (4), or
-//! four bytes 255 where there is none, the script at 20, and the netlist behind it.
+//! at 8 (4 bytes), which tell no job from another, the length of the script at 12 (4), that of the netlist at 16 (4),
+//! or four bytes 255 where there is none, the script at 20, and the netlist behind it.
 ghost use Rattle.std.specs.Prelude.{◌≡◌, ◌≤◌, length, IfOk};
 ghost use Rattle.command_words.specs.Views.{text_of};
 ghost use Rattle.script_runner.specs.JobOf.{job_bytes, netlist_size, source_of, IsShort};

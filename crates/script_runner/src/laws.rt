@@ -50,8 +50,8 @@ pub fn lives_keep()
 /// calls of the station that they make together are at most those that the turns pay for which are shown done at the
 /// end beyond the ones at first, 256 for each turn of a committed step or that a checkpoint shows, and
 /// for each call of the program what it costs to go on from what it found. Each call whose words ask for the job costs
-/// so, with those of fetching two texts and two besides. What an image that is sound for the job pays for is at most 256
-/// calls for each turn of its work; and each image that such calls leave is sound, by `lives_keep`.
+/// so, with those of fetching two texts and two besides. What an image that is sound for the job pays for is at most
+/// 256 calls for each turn of its work; and each image that such calls leave is sound, by `lives_keep`.
 pub fn lives_cost()
     ensures each { (asked : Option Reading) (plan : Plan) (old new : World) → (accepts : Accepts old asked plan)
         → MakesFewCalls asked old new

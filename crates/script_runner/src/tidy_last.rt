@@ -51,8 +51,8 @@ pub(crate) fn tidy_last<S: Shelf>(job: &Job, done: u32, shelf: &mut S) -> Result
     }
 }
 
-/// Empties what a committed step may have left behind, whether it went on from a checkpoint or not. Fewer calls do where
-/// it took so few turns that it saved no checkpoint and took no part for a run.
+/// Empties what a committed step may have left behind, whether it went on from a checkpoint or not. Fewer calls do
+/// where it took so few turns that it saved no checkpoint and took no part for a run.
 fn tidy_again<S: Shelf>(planned: &Planned, entry: &Entry, shelf: &mut S) -> Result<(), Failed>
     ensures content { Told S.tells shelf.old shelf.new
         (Ran (OnlyTidied planned.now.step entry.now.number (tidied_to entry.now) (now (S.world shelf.old)))

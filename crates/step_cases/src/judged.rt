@@ -58,8 +58,8 @@ fn has_trailer(n: u32, bytes: &[u8]) -> bool {
         && leads
 }
 
-// The place of the first record, from the last one on, that is of no node or not in order: it has to come before the one
-// in front of it.
+// The place of the first record, from the last one on, that is of no node or not in order: it has to come before the
+// one in front of it.
 fn first_damage(n: u32, bytes: &[u8]) -> Option<usize> {
     let mut found = None;
     for place in 0..count_of(bytes) {

@@ -54,8 +54,8 @@ pub record AgreesBefore (step : ℕ) (old : Folder) (image : Image) : Type 0 whe
   pub is_image : IsImage old before
   pub same : (f : FileNo) → ¬ (IsSweepPart step f) → bytes_in image f ≡ bytes_in before f
 
--- while it is found how far the step has come, and what was lost is given up: files of other steps stay; reads of all but
--- these parts give what they gave, and each image agrees with one of before
+-- while it is found how far the step has come, and what was lost is given up: files of other steps stay; reads of all
+-- but these parts give what they gave, and each image agrees with one of before
 pub record DuringGoing (step : ℕ) (old m : Moment) : Type 0 where
   pub others : (f : FileNo) → f.step ≢ step → file_in m.folder f ≡ file_in old.folder f
   pub reads : (f : FileNo) → ¬ (IsSweepPart step f) → (file_in m.folder f).bytes ≡ (file_in old.folder f).bytes

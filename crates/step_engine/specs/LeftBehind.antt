@@ -22,8 +22,8 @@ NamedBy (Some c) part = Names c part
 abbrev pub most_cut : ℕ
 most_cut = 65536
 
--- a file that a step with that next part leaves behind: its checkpoints, their gate and its arcs, the runs that its last
--- checkpoint names, and the last parts that it took
+-- a file that a step with that next part leaves behind: its checkpoints, their gate and its arcs, the runs that its
+-- last checkpoint names, and the last parts that it took
 pub record IsLeftBehind (number next : ℕ) (last : Option Checkpoint) (f : FileNo) : Type 0 where
   pub behind : IsBehind number next f
   pub which : (f.part < first_run_part) ⊎ NamedBy last f.part ⊎ (next ≤ f.part + most_cut)

@@ -51,9 +51,9 @@ pub fn tidy<S: Shelf>(planned: &Planned, entry: &Entry, shelf: &mut S) -> Result
     }
 }
 
-/// The same of a step that went on from a checkpoint. Of its runs those are emptied that its last gated checkpoint names,
-/// and its last 65,536 parts, which are all that it took but where it made some hundred million turns. So calls don't grow
-/// with the turns of earlier runs.
+/// The same of a step that went on from a checkpoint. Of its runs those are emptied that its last gated checkpoint
+/// names, and its last 65,536 parts, which are all that it took but where it made some hundred million turns. So calls
+/// don't grow with the turns of earlier runs.
 ///
 /// Where the last gated bytes are no checkpoint, none is named.
 pub fn tidy_gone_on<S: Shelf>(planned: &Planned, entry: &Entry, shelf: &mut S) -> Result<(), Failed>

@@ -19,11 +19,11 @@ use shelf_model::{Shelf, SortFault};
 ///
 /// It changes the step's own files alone: its node file, its checkpoints and their gate, its arcs and its runs. A step
 /// that was interrupted goes on from its last gated checkpoint, or begins anew where it has none. Before it goes on,
-/// the 3,300 parts from that checkpoint's next part number on are empty, as many as a stopped life may have taken behind
-/// it, where it is one of a sweep that keeps runs: another sweep takes no part.
+/// the 3,300 parts from that checkpoint's next part number on are empty, as many as a stopped life may have taken
+/// behind it, where it is one of a sweep that keeps runs: another sweep takes no part.
 ///
-/// It takes no memory: the room, 16,384 to 4,194,304 records of 64 bytes, holds what it sorts, and may have another length
-/// in each run.
+/// It takes no memory: the room, 16,384 to 4,194,304 records of 64 bytes, holds what it sorts, and may have another
+/// length in each run.
 ///
 /// Refuses where a call of the folder fails (`Shelf`), where an operand's node file or the entry that a size reads
 /// isn't what a step leaves (`Damaged`), and where a sweep has no part number left for a new file (`RunsSpent`). The

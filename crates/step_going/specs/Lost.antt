@@ -1,10 +1,10 @@
--- What a life that was stopped may have lost of a step: the parts that it took behind the checkpoint with which the step
--- goes on.
+-- What a life that was stopped may have lost of a step: the parts that it took behind the checkpoint with which the
+-- step goes on.
 use Rattle.std.specs.Prelude.{◌≡◌, ℕ, ◌+◌, ◌<◌, ◌≤◌}
 use Rattle.shelf_model.specs.declared.file_no.FileNo.{FileNo}
 
--- no fewer than the parts that are taken between two checkpoints: each is paid with 256, of which 65,536 turns take 12 a
--- turn and a save 4,608, and earlier turns may have paid for 198
+-- no fewer than the parts that are taken between two checkpoints: each is paid with 256, of which 65,536 turns take 12
+-- a turn and a save 4,608, and earlier turns may have paid for 198
 abbrev pub most_lost : ℕ
 most_lost = 3300
 

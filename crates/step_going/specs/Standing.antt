@@ -1,6 +1,6 @@
 -- When a step can go on from its last gated checkpoint: in an image, and in each image of a folder. An image and a
--- folder are taken by the bytes of each file. What the step does is left open: Q says of a reading that the step goes on
--- there, and `rests` on which first bytes of which files a checkpoint of it rests.
+-- folder are taken by the bytes of each file. What the step does is left open: Q says of a reading that the step goes
+-- on there, and `rests` on which first bytes of which files a checkpoint of it rests.
 use Rattle.std.specs.Prelude.{◌≡◌, ◌⊎◌, ℕ, ◌≤◌, List, [], take, Option, Some, None}
 use Rattle.shelf_model.specs.declared.file_no.FileNo.{FileNo}
 use Rattle.shelf_model.specs.File.{no_file}
@@ -44,8 +44,8 @@ abbrev pub HasNone : ℕ → Folder → Type 0
 HasNone step folder = file_in folder (checkpoint_gate step) ≡ no_file
 
 -- whatever a stop leaves, the last gated checkpoint is this one, and the step goes on from it: the gate is sure, and so
--- are the checkpoints that it counts, and all that this one rests on, which no sweep of the step takes from the next part
--- number on
+-- are the checkpoints that it counts, and all that this one rests on, which no sweep of the step takes from the next
+-- part number on
 pub record StandsIn (Q : (FileNo → List ℕ) → Type 0) (rests : Checkpoint → FileNo → ℕ → Type 0)
     (step next : ℕ) (folder : Folder) (c : Checkpoint) : Type 0 where
   pub last : IsLastOf step (present folder) c

@@ -12,9 +12,9 @@ use shelf_model::{Failed, FileNo, Shelf};
 /// No fewer than the parts that a life takes between two checkpoints.
 const MOST_LOST: u64 = 3_300;
 
-/// Empties what a stopped life lost of a step, the parts that it took behind the checkpoint with which the step goes on:
-/// from that checkpoint's next part number on. The life that goes on may never take these numbers, and their bytes would
-/// stay.
+/// Empties what a stopped life lost of a step, the parts that it took behind the checkpoint with which the step goes
+/// on: from that checkpoint's next part number on. The life that goes on may never take these numbers, and their bytes
+/// would stay.
 ///
 /// After `Failed` some of them may be empty and some not, or as a stop may leave them.
 pub fn give_up_lost<S: Shelf>(step: u32, next: u64, shelf: &mut S) -> Result<(), Failed>

@@ -19,8 +19,8 @@ use Rattle.step_sweeps.specs.Answers.{Question, IsAsked}
 use Rattle.step_sweeps.specs.Going.{rest_calls}
 
 -- of the tables of this question so much remains of the sweep's job that the turns are within the work; what it reads
--- is sure; and the step stands with its last checkpoint, and all is sure on which that rests of the files that the sweep
--- makes
+-- is sure; and the step stands with its last checkpoint, and all is sure on which that rests of the files that the
+-- sweep makes
 pub record IsOnTheWay {Given P : Type 0} (kind : sweep.Ghosts P) (q : Question Given) (job : kind.Job) (going : Going)
     (s : P) (world : World) (g : Given) : Type 0 where
   pub remains : kind.remains s world job

@@ -25,24 +25,24 @@ MissesNone bytes at = ⊥
 abbrev pub MissesNamed : List ℕ → ℕ → Type 0
 MissesNamed = IsMissedAt
 
--- a sweep misses a node that it asks for and that isn't there; where it asks its files for their own pointers alone, the
--- file knows that pointer
+-- a sweep misses a node that it asks for and that isn't there; where it asks its files for their own pointers alone,
+-- the file knows that pointer
 pub record MissesAsked (Own : Type 0) (bytes : List ℕ) (at : ℕ) : Type 0 where
   pub key : ℕ
   pub node : IsNodeWord key
   pub absent : IsAbsent bytes key at
   pub known : Own → IsKnown bytes key
 
--- of these files the operation asks each for its own pointers alone: a quantifier, whose two pointers are of one diagram,
--- where it is given that one's file twice
+-- of these files the operation asks each for its own pointers alone: a quantifier, whose two pointers are of one
+-- diagram, where it is given that one's file twice
 abbrev pub AsksOwn : StepOperation → OperandFiles → Type 0
 AsksOwn (Operator op) operands = Unit
 AsksOwn Choice operands = Unit
 AsksOwn (Quantifier kind level) operands = operands.second ≡ operands.first
 AsksOwn (Restriction level value) operands = Unit
 
--- a step that makes a diagram misses a node that another one names; where it asks the file of one diagram for pointers of
--- another one, it misses one that it asks for, which no node may name
+-- a step that makes a diagram misses a node that another one names; where it asks the file of one diagram for pointers
+-- of another one, it misses one that it asks for, which no node may name
 pub record MissesIn (operation : StepOperation) (operands : OperandFiles) (bytes : List ℕ) (at : ℕ) : Type 0 where
   pub key : ℕ
   pub absent : IsAbsent bytes key at

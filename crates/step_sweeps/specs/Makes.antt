@@ -76,8 +76,8 @@ pub record IsDiagramOf (making : Making) (g : Tables) (m : MadeDiagram) (world :
 -- a step makes its diagram, or is refused
 pub record Makes {S : Type 0} (tells : S → Bool) (world : S → World) (counts : S → Faults) (making : Making)
     (going : Going) (before after : S) (result : Result MadeDiagram SortFault) : Type 0 where
-  -- of canonical files the operation's diagram is made, within the step's work, and none of them is damaged; what a stop
-  -- leaves at any moment can be begun or gone on with
+  -- of canonical files the operation's diagram is made, within the step's work, and none of them is damaged; what a
+  -- stop leaves at any moment can be begun or gone on with
   pub made : IfOk result (λ m. IsTrue (tells after) → (g : Tables) → IsGivenFor making going (world before) g
       → IsDiagramOf making g m (world after))
   pub undamaged : IfErr result (λ e. IsTrue (tells after) → (g : Tables) → IsGivenFor making going (world before) g
@@ -90,8 +90,8 @@ pub record Makes {S : Type 0} (tells : S → Bool) (world : S → World) (counts
   pub images : IsTrue (tells after) → (g : Tables) → IsGivenFor making going (world before) g
       → Throughout (world before) (world after)
       (λ (m : Moment). AreSafe (goes_on_by making g) making.number m.folder)
-  -- whatever the files hold: where the step began anew a place is named only where an operand is damaged, and only files
-  -- of the step are changed
+  -- whatever the files hold: where the step began anew a place is named only where an operand is damaged, and only
+  -- files of the step are changed
   pub damaged : IfErr result (λ e. IsTrue (tells after) → going.last ≡ None → HasNoGate making.number (world before)
       → IsArcsFault making.operation making.n making.operands (world before) e)
   pub content : Told tells before after

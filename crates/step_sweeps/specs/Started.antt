@@ -47,7 +47,8 @@ pub record Starts {S P : Type 0} (tells : S → Bool) (world : S → World) (cou
     (going : Going) (before after : S) (s : P) : Type 0 where
   pub may : MayRun kind making.number going s
   pub in_step : IsTrue (tells after) → kind.in_step s (world after)
-  -- of the tables that the step is given a job remains, and with the turns that were made no more than so many are needed
+  -- of the tables that the step is given a job remains, and with the turns that were made no more than so many are
+  -- needed
   pub under_way : IsTrue (tells after) → (g : Tables) → IsGivenFor making going (world before) g
       → (job : kind.Job) × does g job s × IsUnderWay kind making g going.last job s (world after)
       × (going.turns + kind.left s (world after) job ≤ most g)

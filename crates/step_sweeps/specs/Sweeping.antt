@@ -50,8 +50,8 @@ pub record IsAtPoint (going : Going) (c : Checkpoint) : Type 0 where
   pub sweep_is : going.sweep ≡ c.sweep
   pub paid : IsPaid c
 
--- where a step stands: nothing was done of it, or by its last checkpoint it is at a copy, which is a first sweep without
--- tables, at the sweep that makes arcs, which has some, or at the reduction, which is the second sweep
+-- where a step stands: nothing was done of it, or by its last checkpoint it is at a copy, which is a first sweep
+-- without tables, at the sweep that makes arcs, which has some, or at the reduction, which is the second sweep
 abbrev pub IsAtStage : Going → Stage → Type 0
 IsAtStage going Anew = going.last ≡ None
 IsAtStage going Copying = (c : Checkpoint) × (going.last ≡ Some c) × (c.sweep ≢ 1) × (c.tables ≡ 0)
@@ -100,8 +100,8 @@ abbrev pub IsEarly : {S : Type 0} → (S → Bool) → (S → World) → Making 
 IsEarly tells world making going before = IsTrue (tells before) → (g : Tables) → IsGiven making (world before) g
     → going.last ≡ None → going.turns ≤ 2 * nodes_for making g + 1
 
--- the most turns of the step when the sweeps have ended: of those that began the turns before, sixteen for each tuple that
--- is joined, three for each node and fifteen; and else its work
+-- the most turns of the step when the sweeps have ended: of those that began the turns before, sixteen for each tuple
+-- that is joined, three for each node and fifteen; and else its work
 abbrev pub most_turns : Option Checkpoint → Making → Going → Tables → ℕ
 most_turns None making going g = going.turns
     + (16 * tuples_by making.operation making.n g + 3 * nodes_for making g + 15)
@@ -204,8 +204,8 @@ pub record AreArcsOf (making : Making) (old new : Going) (g : Tables) (m : MadeA
   pub few : new.turns + (10 * tuples_by making.operation making.n g + 9) ≤ most_turns old.last making old g
   pub said : IsSaidOf old new has.last
 
--- what the sweep that makes them takes, where so many turns are left: a turn for each, and one, which leave ten for each
--- tuple, and nine, of the most that the step may take
+-- what the sweep that makes them takes, where so many turns are left: a turn for each, and one, which leave ten for
+-- each tuple, and nine, of the most that the step may take
 pub record TakesFew (making : Making) (going : Going) (g : Tables) : Type 0 where
   pub left : ℕ
   pub few : going.turns + left + (10 * tuples_by making.operation making.n g + 10) ≤ most_turns going.last making going g
@@ -273,8 +273,8 @@ pub record AreReducible (making : Making) (going : Going) (g : Tables) (each : �
   pub has : HasArcsOf making g m world
   pub few : going.turns + (each * has.sources + 9) ≤ work_for making g
 
--- a step's arcs are reduced to its node file, behind the turns that made them, with so many more for each source; a stop
--- costs so many calls at most beyond those for turns that it leaves shown
+-- a step's arcs are reduced to its node file, behind the turns that made them, with so many more for each source; a
+-- stop costs so many calls at most beyond those for turns that it leaves shown
 pub record Reduces {S : Type 0} (tells : S → Bool) (world : S → World) (counts : S → Faults) (making : Making)
     (arcs : MadeArcs) (going : Going) (each stop : ℕ) (before after : S) (result : Result MadeDiagram SortFault) : Type 0
   where

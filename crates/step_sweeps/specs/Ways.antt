@@ -1,4 +1,5 @@
--- What a step that begins anew makes in one of its ways, where turns were made before: so many count for what was tried.
+-- What a step that begins anew makes in one of its ways, where turns were made before: so many count for what was
+-- tried.
 use Rattle.std.specs.Prelude.{◌≡◌, ◌≢◌, ℕ, ◌+◌, ◌-◌, ◌*◌, ◌^◌, ◌<◌, ◌≤◌, Bool, IsTrue, Result, IfOk, IfErr, IsErrOf, None}
 use Rattle.shelf_model.specs.declared.sort_fault.SortFault.{SortFault}
 use Rattle.shelf_model.specs.declared.sort_fault.SortFault.TheVariants.{RunsSpent}
@@ -19,7 +20,8 @@ use Rattle.step_sweeps.specs.Given.{Tables}
 use Rattle.step_sweeps.specs.Made.{node_file, OnlyStep, IsCounted, FewAnew}
 use Rattle.step_sweeps.specs.Makes.{IsGiven, AreFirm, HasNoGate, table_by, nodes_for, work_for, goes_on_by}
 
--- nothing was done of a step of that number, and a checkpoint is due after no fewer turns than the least room has records
+-- nothing was done of a step of that number, and a checkpoint is due after no fewer turns than the least room has
+-- records
 pub record IsAnew (number : ℕ) (going : Going) : Type 0 where
   pub step_is : going.step ≡ number
   pub sweep_is : going.sweep ≡ 0

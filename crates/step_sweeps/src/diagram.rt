@@ -34,8 +34,8 @@ pub struct MadeDiagram {
 }
 
 /// Makes the node file of an operation on the files of diagrams of `n` variables: a sweep makes the arcs of a diagram
-/// in parts 3 and 4 of the step, and a reduction makes part 0 of them. It begins anew, whatever these files hold, or goes
-/// on from the step's last checkpoint.
+/// in parts 3 and 4 of the step, and a reduction makes part 0 of them. It begins anew, whatever these files hold, or
+/// goes on from the step's last checkpoint.
 ///
 /// An operator's diagram is made in the way that `way_of` of `copied_diagrams` chooses by the operands' trailers. That
 /// of a constant, a copy of an operand's or its complement is made at once where it has fewer nodes than a checkpoint's

@@ -19,8 +19,9 @@ use shelf_model::{FileNo, Shelf, SortFault};
 use sweep_checkpoint::Going;
 
 /// Makes the step's node file in the room, where it holds what that takes, which is saved where that is due, and else
-/// by sweeps, for which the look at the trailers and each node of both operands, which may have been read in vain, count
-/// as a turn. So many turns were made before. Of the step's work at least a turn for each node of the operands is left.
+/// by sweeps, for which the look at the trailers and each node of both operands, which may have been read in vain,
+/// count as a turn. So many turns were made before. Of the step's work at least a turn for each node of the operands is
+/// left.
 pub(crate) fn join<S: Shelf>(
     op: Bin,
     pair: Pair,

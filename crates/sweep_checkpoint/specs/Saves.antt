@@ -30,8 +30,8 @@ pub record IsLastBefore (step : ℕ) (old : Folder) (r : FileNo → List ℕ) : 
   pub same : last_gated step r ≡ last_gated step (bytes_in before)
 
 -- while a checkpoint is saved: other files stay, and so do the checkpoints that are gated, as they are sure and as they
--- are read; the gate only grows; and where the gate was sure, the last one that is gated is in each image one of before,
--- or this one
+-- are read; the gate only grows; and where the gate was sure, the last one that is gated is in each image one of
+-- before, or this one
 pub record DuringSave (c : Checkpoint) (old m : Moment) : Type 0 where
   pub others : (q : FileNo) → q ≢ checkpoint_file c.step → q ≢ checkpoint_gate c.step
       → file_in m.folder q ≡ file_in old.folder q

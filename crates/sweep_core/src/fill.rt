@@ -21,8 +21,8 @@ pub fn fill_without_runs(into: &mut Checkpoint, next_part: u64, carry: [u64; 250
     into.runs = [[Run::NONE; 64]; 9];
 }
 
-/// Fills a checkpoint of a sweep whose runs these tables name, at most nine of them: its words, and the part number from
-/// which on none was taken.
+/// Fills a checkpoint of a sweep whose runs these tables name, at most nine of them: its words, and the part number
+/// from which on none was taken.
 pub fn fill_with_runs(into: &mut Checkpoint, next_part: u64, carry: [u64; 250], tables: &[RunTable])
     requires few { length tables.now ≤ 9 }
     ensures head { SameHead into.old into.new }

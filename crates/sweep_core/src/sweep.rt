@@ -98,8 +98,8 @@ pub trait Sweep<'r>: Sized {
 
     /// Fills a checkpoint, whose step, sweep, turns and budget stand there, with what the sweep goes on from, and
     /// makes sure all that it rests on but the operands, where something remains of a job: the files of a rebuilt sweep
-    /// may be shorter than its checkpoint says. What remains stays what it was. A sweep that has ended has nothing to go
-    /// on from.
+    /// may be shorter than its checkpoint says. What remains stays what it was. A sweep that has ended has nothing to
+    /// go on from.
     ///
     /// A refusal is one of the folder, of a damaged run, or for want of a part number. After it the sweep isn't used
     /// again.
@@ -150,8 +150,8 @@ pub trait Sweep<'r>: Sized {
             remains self.old (S.world shelf.old) job → IsNoDamage e) }
         ensures spent { IsErrOf result SortFault.RunsSpent → 2 ^ 32 ≤ accounts.next self.new };
 
-    /// The sweep that goes on from a checkpoint, which is the last one of its step that is gated. It reads the text, and
-    /// the room is its own.
+    /// The sweep that goes on from a checkpoint, which is the last one of its step that is gated. It reads the text,
+    /// and the room is its own.
     ///
     /// A refusal is one of the folder, or names a damaged place. After it the room's records are any.
     fn rebuild<S: Shelf>(

@@ -72,7 +72,8 @@ queue_tables c = table_in c 0 ∷ table_in c 1 ∷ table_in c 2 ∷ []
 abbrev pub parts_at : Checkpoint → Parts
 parts_at c = record { step = c.step; next = c.next_part }
 
--- the operand is a file that the step may read, of no more nodes than the longest file has, and none of the files of arcs
+-- the operand is a file that the step may read, of no more nodes than the longest file has, and none of the files of
+-- arcs
 pub record IsSavedOperand (c : Checkpoint) (a : SavedArcs) (o : SavedOperand) : Type 0 where
   pub other : IsReadPart c.step c.next_part o.file
   pub not_inner : o.file ≢ a.inner

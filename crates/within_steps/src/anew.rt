@@ -128,8 +128,8 @@ fn next_run(alloc: Global, whole: &Bench, bench: Bench) -> Option<u64> {
     }
 }
 
-// How many calls the runs behind that stop make that end as one that nothing stops: where nothing was changed, and where
-// a file of that kind was.
+// How many calls the runs behind that stop make that end as one that nothing stops: where nothing was changed, and
+// where a file of that kind was.
 fn runs_behind(alloc: Global, kind: Kind) -> Result<(Option<u64>, Option<u64>), Fail> {
     let script = gen_script(alloc, SIZE)?;
     let script = script.as_slice();

@@ -62,8 +62,9 @@ const OWN_BUDGET: u64 = 16_384;
 
 const OTHER_BUDGETS: [u64; 3] = [0, 4_194_304, (1 << 32) - 1];
 
-/// The words that name files in a checkpoint, with what they are: where two operands and the arcs are named, one operand
-/// and the arcs, the steps of the arcs and the nodes, two operands that are compared, and one that is evaluated.
+/// The words that name files in a checkpoint, with what they are: where two operands and the arcs are named, one
+/// operand and the arcs, the steps of the arcs and the nodes, two operands that are compared, and one that is
+/// evaluated.
 const OF_TWO: &[(usize, u64)] = &[
     (8, 0),
     (9, 0),

@@ -84,8 +84,8 @@ pub(crate) fn is_stopped(request: &Request, calls: u64, room: &mut [Rec], bench:
     )
 }
 
-/// What a stop leaves of a folder in which the step was stopped once its gate counted so many checkpoints; none where it
-/// wasn't, or where the stop leaves fewer of them.
+/// What a stop leaves of a folder in which the step was stopped once its gate counted so many checkpoints; none where
+/// it wasn't, or where the stop leaves fewer of them.
 pub(crate) fn saved_in(
     request: &Request,
     saves: u64,

@@ -36,9 +36,9 @@ impl Room {
     }
 }
 
-/// Lives of the step that are stopped, each with its room, how many checkpoints are gated at the stop, and what the stop
-/// leaves; the room of the life that goes on to the end; and whether that makes the step in as many turns in all as one
-/// in the least room that nothing stops.
+/// Lives of the step that are stopped, each with its room, how many checkpoints are gated at the stop, and what the
+/// stop leaves; the room of the life that goes on to the end; and whether that makes the step in as many turns in all
+/// as one in the least room that nothing stops.
 type Moved = (&'static [(Room, u64, Choice)], Room, bool);
 
 const MOVED: [Moved; 3] = [
@@ -114,8 +114,8 @@ fn last_in(room: Room, bench: &mut Bench) -> Result<(bool, u64), Fail> {
     Ok((point.budget as usize == records, records_in(&point)))
 }
 
-// Whether a life in that folder ends with the file of one in the least room that nothing stopped, and with its entry, but
-// for the next part number, and fewer turns where these aren't to be as many.
+// Whether a life in that folder ends with the file of one in the least room that nothing stopped, and with its entry,
+// but for the next part number, and fewer turns where these aren't to be as many.
 fn ends_as(
     whole: &Whole,
     as_many_turns: bool,

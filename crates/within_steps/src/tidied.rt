@@ -1,4 +1,5 @@
-//! Runs that are stopped once a step that swept is committed, before what it leaves behind is cut: the next run cuts that.
+//! Runs that are stopped once a step that swept is committed, before what it leaves behind is cut: the next run cuts
+//! that.
 use crate::words::are_alike;
 use case_runs::{SMALL, bench_with, run};
 use example_script::gen_script;

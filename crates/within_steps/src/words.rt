@@ -206,7 +206,8 @@ const SECOND_WAY: u32 = 71;
 
 const COMPARISON: u32 = 72;
 
-// Whether two catalogues have the same entries but for next part numbers: a sweep that was rebuilt may take fewer parts.
+// Whether two catalogues have the same entries but for next part numbers: a sweep that was rebuilt may take fewer
+// parts.
 fn same_entries(a: &[u8], b: &[u8]) -> bool {
     if a.len() != b.len() {
         return false;
