@@ -111,6 +111,7 @@ take_lanes() {
     [ "$most" -ge "$idle" ] || idle=$most
     [ "$idle" -ge 1 ] || idle=1
     idle=${ADIAR_LANES:-$idle}
+    half=$((idle / 2))
     free_rooms='' many_rooms=0
 }
 
@@ -134,16 +135,23 @@ look_at_lanes() {
     working=$still
 }
 
-# Starts crates below which all is proved. A lane that none of them needs helps another with its proof.
+# Starts crates below which all is proved. A lane that none of them needs helps another with its proof. The crate for
+# which the longest chain of others waits has half of the lanes' jobs in any case, though others work in those lanes too:
+# all wait for that chain at the end.
 start_lanes() {
     ready='' others=''
     for crate in $left; do
         if is_ready "$crate"; then ready="$ready $crate"; fi
     done
     set -- $ready
+    for crate in $left; do
+        longest=$crate
+        break
+    done
     while [ $# -gt 0 ] && [ "$idle" -gt 0 ]; do
         jobs=$((idle / $#))
         [ "$jobs" -ge 1 ] || jobs=1
+        [ "$1" != "$longest" ] || [ "$jobs" -ge "$half" ] || jobs=$half
         [ "$jobs" -le 4 ] || jobs=4
         take_room
         [ "$1" != adiar_cli ] || exec 9<&-
