@@ -6,5 +6,6 @@ pub mod Steps
 pub mod Roots
 pub mod Searches
 pub mod Descents
+pub mod Passes
 pub mod Walks
 pub mod Blanks

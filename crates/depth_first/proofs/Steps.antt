@@ -53,7 +53,8 @@ module _ (g : List (List ℕ)) (states : List State) (order : List ℕ) (fs : Li
   pub target_inside : t < length g
   target_inside = subst (λ s. s < length g) leads (graph f.node f.next (last_node g states order fs f w) more_edges)
 
-  state_is : get_or states t New ≡ here
+  -- its state is the one that was read
+  pub state_is : get_or states t New ≡ here
   state_is =
       let size : length states ≡ length g = w.size in
       let inside : t < length g = target_inside in

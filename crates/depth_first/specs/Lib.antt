@@ -4,4 +4,5 @@ pub mod Search
 pub mod Views
 pub mod Tables
 pub mod Rest
+pub mod Jumps
 pub mod Walkers

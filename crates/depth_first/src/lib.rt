@@ -3,6 +3,7 @@
 #![tactic(auto)]
 
 mod components;
+mod jumps;
 mod orders;
 mod search;
 mod state;
@@ -10,6 +11,7 @@ mod table;
 mod walk;
 mod walker;
 
+pub use jumps::jump;
 pub use orders::{first_cycle, visit_order};
 pub use table::make_blank;
 pub use walker::Walker;

@@ -28,6 +28,7 @@ pub fn visit_order(alloc: Global, edges: &[Vec<u32>], roots: &[u32]) -> Result<V
 }
 
 /// A node that leads to itself, where there is one.
+#[tactic(auto, using(crate::proofs::Passes::no_jumps))]
 fn some_cycle(alloc: Global, edges: &[Vec<u32>]) -> Result<Option<u32>, AllocError>
     requires few { length edges.now < 4294967294 }
     requires graph { IsGraph (graph_of edges.now) }
@@ -36,7 +37,7 @@ fn some_cycle(alloc: Global, edges: &[Vec<u32>]) -> Result<Option<u32>, AllocErr
 {
     let mut walk = new_walk(alloc, edges.len())?;
     for root in 0..edges.len() as u32 {
-        if let Some(found) = visit_root(edges, &mut walk, root)? {
+        if let Some(found) = visit_root(edges, &[], &mut walk, root)? {
             return Ok(Some(found));
         }
     }

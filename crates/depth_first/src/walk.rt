@@ -5,7 +5,9 @@ ghost use Rattle.depth_first.specs.Graph.{IsGraph, Reaches, edges_of};
 ghost use Rattle.depth_first.specs.Walk.{IsWalk, StepsTo, Visited, WalkOver};
 ghost use Rattle.depth_first.specs.declared.state.State.TheVariants.{New, OnWay, Done};
 ghost use Rattle.depth_first.specs.Views.{graph_of};
+ghost use Rattle.depth_first.specs.Jumps.{JumpRepeats};
 
+use crate::jumps::jump;
 use crate::state::{State, is_done};
 use std::alloc::{AllocError, Global};
 
@@ -37,18 +39,17 @@ fn leave(walk: &mut Walk, frame: Frame) -> Result<(), AllocError>
     Ok(())
 }
 
-/// One more edge of the frame's node was followed.
-fn follow(walk: &mut Walk, frame: Frame) -> Result<(), AllocError>
-    requires { frame.next + 1 < 2 ^ 64 }
+/// The edges of the frame's node before this one were followed.
+fn follow(walk: &mut Walk, frame: Frame, next: usize) -> Result<(), AllocError>
     ensures size { length walk.new.states.items ≡ length walk.old.states.items }
     ensures states { OnOk result (walk.new.states.items ≡ walk.old.states.items) }
     ensures order { OnOk result (walk.new.order.items ≡ walk.old.order.items) }
     ensures stack { OnOk result (walk.new.stack.items ≡ walk.old.stack.items
-        ++ record { node = frame.node; next = frame.next + 1 } ∷ []) }
+        ++ record { node = frame.node; next = next } ∷ []) }
 {
     walk.stack.push(Frame {
         node: frame.node,
-        next: frame.next + 1,
+        next,
     })?;
     Ok(())
 }
@@ -71,10 +72,12 @@ fn enter(walk: &mut Walk, frame: Frame, node: u32) -> Result<(), AllocError>
 /// One step of a walk whose last frame was taken off. The answer is a node that leads to itself.
 pub(crate) fn step(
     edges: &[Vec<u32>],
+    jumps: &[Vec<u32>],
     walk: &mut Walk,
     frame: Frame,
 ) -> Result<Option<u32>, AllocError>
     requires graph { IsGraph (graph_of edges.now) }
+    requires jumps { JumpRepeats (graph_of edges.now) (graph_of jumps.now) }
     requires before { IsWalk (graph_of edges.now) walk.old.states.items walk.old.order.items
         (walk.old.stack.items ++ frame ∷ []) }
     ensures size { length walk.new.states.items ≡ length walk.old.states.items }
@@ -92,7 +95,8 @@ pub(crate) fn step(
     let here = walk.states[target as usize];
     match here {
         State::Done => {
-            follow(walk, frame)?;
+            // Edges that the jump passes lead to nodes that were left.
+            follow(walk, frame, jump(jumps, frame.node, frame.next))?;
             Ok(None)
         }
         State::New => {
@@ -104,8 +108,13 @@ pub(crate) fn step(
 }
 
 /// One step of a walk. The answer is a node that leads to itself.
-fn last_step(edges: &[Vec<u32>], walk: &mut Walk) -> Result<Option<u32>, AllocError>
+fn last_step(
+    edges: &[Vec<u32>],
+    jumps: &[Vec<u32>],
+    walk: &mut Walk,
+) -> Result<Option<u32>, AllocError>
     requires graph { IsGraph (graph_of edges.now) }
+    requires jumps { JumpRepeats (graph_of edges.now) (graph_of jumps.now) }
     requires before { IsWalk (graph_of edges.now) walk.old.states.items walk.old.order.items walk.old.stack.items }
     requires left { 0 < length walk.old.stack.items }
     ensures size { length walk.new.states.items ≡ length walk.old.states.items }
@@ -115,7 +124,7 @@ fn last_step(edges: &[Vec<u32>], walk: &mut Walk) -> Result<Option<u32>, AllocEr
         (λ t. (t < length edges.now) × Reaches (graph_of edges.now) t t)) }
 {
     match walk.stack.pop() {
-        Some(frame) => step(edges, walk, frame),
+        Some(frame) => step(edges, jumps, walk, frame),
         None => Ok(None),
     }
 }
@@ -136,10 +145,12 @@ fn begin(walk: &mut Walk, node: u32) -> Result<(), AllocError>
 /// Visits a root. The answer is a node that leads to itself.
 pub(crate) fn visit_root(
     edges: &[Vec<u32>],
+    jumps: &[Vec<u32>],
     walk: &mut Walk,
     root: u32,
 ) -> Result<Option<u32>, AllocError>
     requires graph { IsGraph (graph_of edges.now) }
+    requires jumps { JumpRepeats (graph_of edges.now) (graph_of jumps.now) }
     requires inside { root < length edges.now }
     requires before { IsWalk (graph_of edges.now) walk.old.states.items walk.old.order.items walk.old.stack.items }
     requires empty { walk.old.stack.items ≡ [] }
@@ -154,7 +165,7 @@ pub(crate) fn visit_root(
     }
     begin(walk, root)?;
     'way: while !walk.stack.is_empty() {
-        if let Some(found) = last_step(edges, walk)? {
+        if let Some(found) = last_step(edges, jumps, walk)? {
             return Ok(Some(found));
         }
     }
@@ -164,10 +175,12 @@ pub(crate) fn visit_root(
 /// Visits roots in order. The answer is a node that leads to itself.
 pub(crate) fn visit_roots(
     edges: &[Vec<u32>],
+    jumps: &[Vec<u32>],
     walk: &mut Walk,
     roots: &[u32],
 ) -> Result<Option<u32>, AllocError>
     requires graph { IsGraph (graph_of edges.now) }
+    requires jumps { JumpRepeats (graph_of edges.now) (graph_of jumps.now) }
     requires inside { (i : ℕ) → i < length roots.now → slice_index roots.now i < length edges.now }
     requires before { IsWalk (graph_of edges.now) walk.old.states.items walk.old.order.items walk.old.stack.items }
     requires empty { walk.old.stack.items ≡ [] }
@@ -178,7 +191,7 @@ pub(crate) fn visit_roots(
         (λ t. (t < length edges.now) × Reaches (graph_of edges.now) t t)) }
 {
     for root in roots {
-        if let Some(found) = visit_root(edges, walk, *root)? {
+        if let Some(found) = visit_root(edges, jumps, walk, *root)? {
             return Ok(Some(found));
         }
     }

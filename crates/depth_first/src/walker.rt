@@ -5,6 +5,7 @@ ghost use Rattle.std.specs.Prelude.{IfOk, OnOk, IsErr};
 ghost use Rattle.depth_first.specs.Graph.{IsGraph, IsAcyclic, IsTopological, visits};
 ghost use Rattle.depth_first.specs.Rest.{IsAtRest};
 ghost use Rattle.depth_first.specs.Views.{graph_of};
+ghost use Rattle.depth_first.specs.Jumps.{JumpRepeats};
 ghost use Rattle.depth_first.specs.Tables.{IsBlankBut};
 ghost use Rattle.depth_first.specs.declared.state.State.TheVariants.{New};
 
@@ -36,6 +37,7 @@ impl Walker {
 
     /// Visits nodes depth first from some nodes in order. Refuses for want of memory alone, which leaves no
     /// order, and tables that serve as before.
+    #[tactic(auto, using(crate::proofs::Passes::no_jumps))]
     pub fn visit(&mut self, edges: &[Vec<u32>], roots: &[u32]) -> Result<(), AllocError>
         requires nodes { length edges.now ≡ nodes_of self.old }
         requires graph { IsGraph (graph_of edges.now) }
@@ -49,7 +51,31 @@ impl Walker {
             → slice_index (order_of self.new) k < length edges.now) }
         ensures none { IsErr result → order_of self.new ≡ [] }
     {
-        visit_all(edges, &mut self.walk, roots)
+        visit_all(edges, &[], &mut self.walk, roots)
+    }
+
+    /// Visits nodes as `visit` does, and passes over the edges that the jumps pass over: a node takes time for those
+    /// that are left. Refuses as `visit` does.
+    pub fn visit_by(
+        &mut self,
+        edges: &[Vec<u32>],
+        jumps: &[Vec<u32>],
+        roots: &[u32],
+    ) -> Result<(), AllocError>
+        requires nodes { length edges.now ≡ nodes_of self.old }
+        requires graph { IsGraph (graph_of edges.now) }
+        requires acyclic { IsAcyclic (graph_of edges.now) }
+        requires jumps { JumpRepeats (graph_of edges.now) (graph_of jumps.now) }
+        requires inside { (i : ℕ) → i < length roots.now
+            → slice_index roots.now i < length edges.now }
+        ensures serves { nodes_of self.new ≡ nodes_of self.old }
+        ensures order { OnOk result (order_of self.new ≡ visits (graph_of edges.now) roots.now) }
+        ensures above { OnOk result (IsTopological (graph_of edges.now) (order_of self.new)) }
+        ensures nodes { OnOk result ((k : ℕ) → k < length (order_of self.new)
+            → slice_index (order_of self.new) k < length edges.now) }
+        ensures none { IsErr result → order_of self.new ≡ [] }
+    {
+        visit_all(edges, jumps, &mut self.walk, roots)
     }
 
     /// The nodes in the order of the last walk, each behind those that it leads to.
@@ -87,11 +113,17 @@ fn give_up(walk: &mut Walk)
 
 /// Visits roots in order, and makes what was visited new again.
 #[tactic(auto, using(crate::proofs::Roots::others_are_new))]
-fn visit_all(edges: &[Vec<u32>], walk: &mut Walk, roots: &[u32]) -> Result<(), AllocError>
+fn visit_all(
+    edges: &[Vec<u32>],
+    jumps: &[Vec<u32>],
+    walk: &mut Walk,
+    roots: &[u32],
+) -> Result<(), AllocError>
     requires rest { IsAtRest walk.old }
     requires nodes { length edges.now ≡ length walk.old.states.items }
     requires graph { IsGraph (graph_of edges.now) }
     requires acyclic { IsAcyclic (graph_of edges.now) }
+    requires jumps { JumpRepeats (graph_of edges.now) (graph_of jumps.now) }
     requires inside { (i : ℕ) → i < length roots.now → slice_index roots.now i < length edges.now }
     ensures rest { IsAtRest walk.new }
     ensures size { length walk.new.states.items ≡ length walk.old.states.items }
@@ -102,7 +134,7 @@ fn visit_all(edges: &[Vec<u32>], walk: &mut Walk, roots: &[u32]) -> Result<(), A
     ensures none { IsErr result → walk.new.order.items ≡ [] }
 {
     walk.order.clear();
-    match visit_roots(edges, walk, roots) {
+    match visit_roots(edges, jumps, walk, roots) {
         Ok(_) => {
             renew(&mut walk.states, &mut walk.order);
             Ok(())

@@ -2,7 +2,8 @@ use Rattle.std.proofs.Common.{◌≡◌, ◌<◌, length, get_or, refl, arith, L
 use Rattle.depth_first.specs.declared.state.State.{State}
 use Rattle.depth_first.specs.Graph.{edges_of}
 use Rattle.depth_first.specs.Views.{graph_of}
-use Rattle.depth_first.proofs.Steps.{edges_read, length_graph, frame_inside, target_within, Looks, steps_leaves, steps_follows, steps_enters, steps_closes, target_inside}
+use Rattle.depth_first.proofs.Steps.{edges_read, length_graph, frame_inside, target_within, Looks, steps_leaves, steps_enters, steps_closes, target_inside}
+use Rattle.depth_first.proofs.Passes.{steps_jumps}
 use Rattle.depth_first.proofs.walk.step.Goals as goal
 
 pub returns-then-frame-targets-clause-walked : goal.returns-then-frame-targets-clause-walked
@@ -39,7 +40,7 @@ returns-in_ok-follow-in-Done-clause-walked c =
     let e : edges_of g c.args.frame.node ≡ targets = edges_read c.args.edges.now c.args.frame.node c.index-edges-frame.result targets inside c.index-edges-frame.is c.as_slice-targets.ensures.value in
     let t : ℕ = get_or targets c.args.frame.next 0 in
     let l : Looks g states c.args.frame targets t c.index-here.result.now = record { edges = e; more = c.if-frame-targets.false; target = refl; read = c.index-here.ensures } in
-    steps_follows g states order stack c.args.frame targets t c.index-here.result.now c.requires.graph c.requires.before l _ _ _ c.in-Done.is c.in_ok-follow-in-Done.ensures.states c.in_ok-follow-in-Done.ensures.order c.in_ok-follow-in-Done.ensures.stack
+    steps_jumps g (graph_of c.args.jumps.now) states order stack c.args.frame targets t c.index-here.result.now c.jump.result _ _ _ c.requires.graph c.requires.jumps c.requires.before l c.jump.ensures c.in-Done.is c.in_ok-follow-in-Done.ensures.states c.in_ok-follow-in-Done.ensures.order c.in_ok-follow-in-Done.ensures.stack
 
 pub enter-requires : goal.enter-requires
 enter-requires c =
