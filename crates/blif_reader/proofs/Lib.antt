@@ -11,3 +11,4 @@ pub mod Rows
 pub mod Netlists
 pub mod Lengths
 pub mod Accepting
+pub mod Jumping

@@ -10,3 +10,4 @@ pub mod Netlist
 pub mod Views
 pub mod Tables
 pub mod Answers
+pub mod Jumps

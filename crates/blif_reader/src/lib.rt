@@ -7,6 +7,7 @@ mod cover;
 mod fault;
 mod grammar;
 mod index;
+mod jumps;
 mod line;
 mod lines;
 mod names;

@@ -4,29 +4,58 @@ ghost use Rattle.std.specs.Prelude.{◌≡◌, ℕ, ◌<◌, ◌≤◌, Some, []
 ghost use Rattle.std.specs.List.{slice_index_or};
 ghost use Rattle.rec_words.specs.Words.{most_variables};
 ghost use Rattle.depth_first.specs.Graph.{IsTopological, visits};
+ghost use Rattle.depth_first.specs.Views.{graph_of};
 ghost use Rattle.depth_first.specs.Walkers.{nodes_of, order_of};
 ghost use Rattle.blif_reader.specs.Index.{found_in, place_of};
 ghost use Rattle.blif_reader.specs.Netlist.{IsNet, IsBlock, IsRow, cover_at};
+ghost use Rattle.blif_reader.specs.Jumps.{HaveJumps};
 ghost use Rattle.blif_reader.specs.Views.{cover_of};
 ghost use Rattle.blif_reader.specs.Tables.{net_in};
 
 use crate::cover::Cover;
 use crate::index::find;
+use crate::jumps::jumps_of;
 use crate::tables::Tables;
-use depth_first::{Walker, visit_order};
+use depth_first::{Walker, jump, visit_order};
 use std::alloc::{AllocError, Global};
 
 /// A netlist that was accepted. Its signals are numbered: the inputs first, then the blocks' outputs in the
-/// order of the text.
+/// order of the text. The jumps pass places of wide blocks that tell nothing of their values.
 #[derive(Drop)]
 pub struct Netlist {
     pub(crate) tables: Tables,
+    jumps: Vec<Vec<u32>>,
+    ghost leaps: { HaveJumps (net_in tables) (graph_of jumps.items) },
     ghost sound: { IsNet (net_in tables) },
     ghost indexed: { (q : List ℕ) → found_in tables.index q ≡ place_of (net_in tables).names q },
 }
 
 impl Netlist {
     ghost use Rattle.blif_reader.specs.Answers.{net_of};
+
+    /// The netlist of tables, without jumps.
+    pub(crate) fn of(alloc: Global, tables: Tables) -> Netlist
+        requires sound { IsNet (net_in tables) }
+        requires indexed { (q : List ℕ) → found_in tables.index q
+            ≡ place_of (net_in tables).names q }
+        ensures { net_of result ≡ net_in tables }
+    {
+        Netlist {
+            tables,
+            jumps: Vec::new(alloc),
+        }
+    }
+
+    /// The same netlist with its jumps.
+    pub(crate) fn with_jumps(self, alloc: Global) -> Result<Netlist, AllocError>
+        ensures { IfOk result (λ net. net_of net ≡ net_of self) }
+    {
+        let jumps = jumps_of(alloc, &self.tables)?;
+        Ok(Netlist {
+            tables: self.tables,
+            jumps,
+        })
+    }
 
     /// The number of inputs.
     pub fn input_count(&self) -> u32
@@ -101,6 +130,21 @@ impl Netlist {
         self.cover(signal).rows.row(row as usize)
     }
 
+    /// The next column of a block that has to be looked at behind a column: each row has `-` in those between.
+    pub fn next_column(&self, signal: u32, column: usize) -> usize
+        requires block { IsBlock (net_of self.now) signal }
+        requires inside { column < length (slice_index_or (net_of self.now).edges signal []) }
+        ensures on { column < result }
+        ensures within { result ≤ length (slice_index_or (net_of self.now).edges signal []) }
+        ensures hyphens { (r k : ℕ) → r < length (cover_at (net_of self.now) signal).rows
+            → column < k → k < result
+            → slice_index_or (slice_index_or (cover_at (net_of self.now) signal).rows r []) k 45 ≡ 45 }
+    {
+        let words = self.block_inputs(signal).len();
+        prove!(column < words);
+        jump(self.jumps.as_slice(), signal, column)
+    }
+
     /// The output of a block's rows, and 1 where it has none.
     pub fn row_output(&self, signal: u32) -> bool
         requires { IsBlock (net_of self.now) signal }
@@ -130,6 +174,7 @@ impl Netlist {
 
     /// Visits signals as `visits` does, with tables that are kept. Refuses for want of memory alone, which leaves
     /// no order, and tables that serve as before.
+    #[tactic(auto, using(crate::proofs::Jumping::net_jumps))]
     pub fn visit(&self, walker: &mut Walker, wanted: &[u32]) -> Result<(), AllocError>
         requires serves { nodes_of walker.old ≡ length (net_of self.now).names }
         requires wanted { (i : ℕ) → i < length wanted.now
@@ -142,6 +187,6 @@ impl Netlist {
             → slice_index (order_of walker.new) k < length (net_of self.now).names) }
         ensures none { IsErr result → order_of walker.new ≡ [] }
     {
-        walker.visit(self.tables.edges.as_slice(), wanted)
+        walker.visit_by(self.tables.edges.as_slice(), self.jumps.as_slice(), wanted)
     }
 }

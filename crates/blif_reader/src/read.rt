@@ -28,7 +28,7 @@ fn settle(alloc: Global, tables: Tables) -> Result<Netlist, Refusal>
     ensures { Answers (IsSettled (net_in tables)) result }
 {
     match first_cycle(alloc, tables.edges.as_slice())? {
-        None => Ok(Netlist { tables }),
+        None => Ok(Netlist::of(alloc, tables)),
         Some(signal) => {
             let place = (signal as usize).saturating_sub(tables.inputs as usize);
             let line = match tables.covers.get(place) {
@@ -55,7 +55,7 @@ fn build(alloc: Global, statements: &[Statement]) -> Result<Netlist, Refusal>
     settle(alloc, tables)
 }
 
-/// Reads a netlist, or refuses the text by its first fault or for want of memory.
+/// Reads a netlist without jumps, or refuses the text by its first fault or for want of memory.
 fn read(alloc: Global, bytes: &[u8]) -> Result<Netlist, Refusal>
     ensures { Answers (IsReading bytes.now) result }
 {
@@ -69,13 +69,21 @@ fn read(alloc: Global, bytes: &[u8]) -> Result<Netlist, Refusal>
     build(alloc, statements.as_slice())
 }
 
+/// Reads a netlist with its jumps. The statements take memory no longer when these are made.
+fn read_with_jumps(alloc: Global, bytes: &[u8]) -> Result<Netlist, Refusal>
+    ensures { Answers (IsReading bytes.now) result }
+{
+    let net = read(alloc, bytes)?;
+    Ok(net.with_jumps(alloc)?)
+}
+
 /// Reads a netlist. Refuses a text that isn't one: by its first fault, or, where memory ran out, by the kind
 /// `Memory` on line 0. Nothing is left then.
 pub fn read_netlist(alloc: Global, bytes: &[u8]) -> Result<Netlist, BlifFault>
     ensures ok { IfOk result (λ net. IsReading bytes.now (Ok (net_of net))) }
     ensures fault { IfErr result (λ f. IsReading bytes.now (Err f) ⊎ (f ≡ record { line = 0; kind = Memory })) }
 {
-    match read(alloc, bytes) {
+    match read_with_jumps(alloc, bytes) {
         Ok(net) => Ok(net),
         Err(Refusal::Memory) => Err(BlifFault {
             line: 0,
