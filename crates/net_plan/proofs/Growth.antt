@@ -1,5 +1,5 @@
 -- Drafts only grow, so what exceeds the limit at one moment exceeds it at the end.
-use Rattle.std.proofs.Common.{◌≡◌, ◌⊎◌, inl, inr, ℕ, ◌≤◌, ◌==◌, Bool, true, false, cond, List, [], ◌∷◌, ◌++◌, length, Result, Err, refl, sym, ap, ◌∙◌, subst, arith, length-append}
+use Rattle.std.proofs.Common.{◌≡◌, ℕ, ◌≤◌, ◌==◌, Bool, true, false, cond, List, [], ◌∷◌, ◌++◌, length, Result, Err, sym, ap, ◌∙◌, subst, arith, length-append}
 use Rattle.std.specs.Result.{IsErrAnd}
 use Rattle.std.proofs.lemmas.Result.{err_from_is_err_and}
 use Rattle.net_plan.specs.declared.fault.PlanFault.{PlanFault}
@@ -44,11 +44,6 @@ rows_grow first sum (r ∷ rs) ts = omega (arith, row_grows first sum r ts, rows
 pub columns_below : (first c t : ℕ) (d total : Draft) (cells signals cs ts : List ℕ) → cells ≡ c ∷ cs → signals ≡ t ∷ ts → columns first d cells signals ≡ total → length (column first d c t).steps ≤ length total.steps
 columns_below first c t d total cells signals cs ts e f so_far =
     subst (λ (u : Draft). length (column first d c t).steps ≤ length u.steps) so_far (rw (e, f) (columns_grow first (column first d c t) cs ts))
-
--- where no signal is left, no column is
-pub columns_stop : (first : ℕ) (d total : Draft) (cells signals : List ℕ) → signals ≡ [] → columns first d cells signals ≡ total → d ≡ total
-columns_stop first d total [] signals e so_far = so_far
-columns_stop first d total (c ∷ cs) signals e so_far = sym (ap (columns first d (c ∷ cs)) e) ∙ so_far
 
 -- the first step of a cube
 pub cube_begins : (first : ℕ) (steps : List Step) (cells ts : List ℕ) → length (put first steps (Const true)).steps ≤ length (cube first steps cells ts).steps

@@ -1,4 +1,5 @@
 pub mod Growth
+pub mod Columns
 pub mod Planning
 mod Tables
 mod Blocks

@@ -1,8 +1,11 @@
 //! The steps of a block's cover.
 
 ghost use Rattle.std.specs.Prelude.{◌≡◌, ◌+◌, ◌<◌, ◌≤◌, ◌++◌, ◌∷◌, [], List, Bool, true, false, length, drop, take};
+ghost use Rattle.std.specs.Prelude.{map, slice_index};
+ghost use Rattle.std.specs.List.{slice_index_or};
 ghost use Rattle.bool_tables.specs.declared.steps.Step.TheVariants.{Const};
-ghost use Rattle.blif_reader.specs.Netlist.{IsBlock, cover_at};
+ghost use Rattle.depth_first.specs.Graph.{edges_of};
+ghost use Rattle.blif_reader.specs.Netlist.{IsNet, IsBlock, cover_at};
 ghost use Rattle.blif_reader.specs.Answers.{net_of};
 ghost use Rattle.net_plan.specs.Covers.{Draft, put, join, column, columns, cube, summed, row, rows, signed, block};
 ghost use Rattle.net_plan.specs.Drafts.{Drafts};
@@ -33,21 +36,33 @@ fn push_column(
     }
 }
 
-/// The cube of a row.
+/// The cube of a row of a block, from the steps that made the signals. Columns that the netlist passes over have a
+/// hyphen, and add nothing.
+#[tactic(auto, using(crate::proofs::Planning::reads_inside))]
 fn push_cube(
     first: u32,
     steps: &mut Vec<Step>,
-    cells: &[u8],
-    signals: &[u32],
+    net: &Netlist,
+    signal: u32,
+    place: u32,
+    made: &[u32],
 ) -> Result<u32, PlanFault>
-    ensures { Drafts first steps.old.items steps.new.items (cube first steps.old.items cells.now signals.now) result }
+    requires sound { IsNet (net_of net.now) }
+    requires block { IsBlock (net_of net.now) signal }
+    requires inside { place < length (cover_at (net_of net.now) signal).rows }
+    requires signals { length made.now ≡ length (net_of net.now).names }
+    ensures { Drafts first steps.old.items steps.new.items
+        (cube first steps.old.items (slice_index_or (cover_at (net_of net.now) signal).rows place [])
+        (map (slice_index made.now) (edges_of (net_of net.now).edges signal))) result }
 {
+    let inputs = net.block_inputs(signal);
+    let cells = net.row(signal, place);
     let mut at = put_step(first, steps, Step::Const { value: true })?;
-    for (place, cell) in cells.iter().enumerate() {
-        if place >= signals.len() {
-            return Ok(at);
-        }
-        at = push_column(first, steps, *cell, at, signals[place])?;
+    let mut column = 0;
+    'columns: while column < inputs.len() {
+        let number = made[inputs[column] as usize];
+        at = push_column(first, steps, cells[column], at, number)?;
+        column = net.next_column(signal, column);
     }
     Ok(at)
 }
@@ -77,13 +92,21 @@ fn push_row(
     first: u32,
     steps: &mut Vec<Step>,
     sum: u32,
-    cells: &[u8],
-    signals: &[u32],
+    net: &Netlist,
+    signal: u32,
+    place: u32,
+    made: &[u32],
 ) -> Result<u32, PlanFault>
+    requires sound { IsNet (net_of net.now) }
+    requires block { IsBlock (net_of net.now) signal }
+    requires inside { place < length (cover_at (net_of net.now) signal).rows }
+    requires signals { length made.now ≡ length (net_of net.now).names }
     ensures { Drafts first steps.old.items steps.new.items
-        (row first (record { steps = steps.old.items; at = sum }) cells.now signals.now) result }
+        (row first (record { steps = steps.old.items; at = sum })
+        (slice_index_or (cover_at (net_of net.now) signal).rows place [])
+        (map (slice_index made.now) (edges_of (net_of net.now).edges signal))) result }
 {
-    let cube = push_cube(first, steps, cells, signals)?;
+    let cube = push_cube(first, steps, net, signal, place, made)?;
     push_sum(first, steps, sum, cube)
 }
 
@@ -99,39 +122,44 @@ fn push_sign(first: u32, steps: &mut Vec<Step>, value: bool, sum: u32) -> Result
     join_steps(first, steps, NOT_BOTH, sum, sum)
 }
 
-/// The rows of a block, from the steps of the signals that it reads.
+/// The rows of a block, from the steps that made the signals.
 fn push_rows(
     first: u32,
     steps: &mut Vec<Step>,
     net: &Netlist,
     signal: u32,
-    signals: &[u32],
+    made: &[u32],
 ) -> Result<u32, PlanFault>
-    requires { IsBlock (net_of net.now) signal }
+    requires sound { IsNet (net_of net.now) }
+    requires block { IsBlock (net_of net.now) signal }
+    requires signals { length made.now ≡ length (net_of net.now).names }
     ensures { Drafts first steps.old.items steps.new.items
-        (rows first (put first steps.old.items (Const false))
-        (cover_at (net_of net.now) signal).rows signals.now) result }
+        (rows first (put first steps.old.items (Const false)) (cover_at (net_of net.now) signal).rows
+        (map (slice_index made.now) (edges_of (net_of net.now).edges signal))) result }
 {
     let mut sum = put_step(first, steps, Step::Const { value: false })?;
     for place in 0..net.row_count(signal) {
-        sum = push_row(first, steps, sum, net.row(signal, place), signals)?;
+        sum = push_row(first, steps, sum, net, signal, place, made)?;
     }
     Ok(sum)
 }
 
-/// A block, from the steps of the signals that it reads.
+/// A block, from the steps that made the signals.
 pub(crate) fn push_block(
     first: u32,
     steps: &mut Vec<Step>,
     net: &Netlist,
     signal: u32,
-    signals: &[u32],
+    made: &[u32],
 ) -> Result<u32, PlanFault>
-    requires { IsBlock (net_of net.now) signal }
+    requires sound { IsNet (net_of net.now) }
+    requires block { IsBlock (net_of net.now) signal }
+    requires signals { length made.now ≡ length (net_of net.now).names }
     ensures { Drafts first steps.old.items steps.new.items
         (block first steps.old.items (cover_at (net_of net.now) signal).value
-        (cover_at (net_of net.now) signal).rows signals.now) result }
+        (cover_at (net_of net.now) signal).rows
+        (map (slice_index made.now) (edges_of (net_of net.now).edges signal))) result }
 {
-    let sum = push_rows(first, steps, net, signal, signals)?;
+    let sum = push_rows(first, steps, net, signal, made)?;
     push_sign(first, steps, net.row_output(signal), sum)
 }

@@ -48,9 +48,7 @@ fn numbers_of(alloc: Global, signals: &[u32], made: &[u32]) -> Result<Vec<u32>, 
 }
 
 /// The steps of one signal.
-#[tactic(auto, using(crate::proofs::Planning::reads_inside))]
 fn push_signal(
-    alloc: Global,
     first: u32,
     steps: &mut Vec<Step>,
     net: &Netlist,
@@ -75,13 +73,11 @@ fn push_signal(
             },
         );
     }
-    let numbers = numbers_of(alloc, net.block_inputs(signal), made)?;
-    push_block(first, steps, net, signal, numbers.as_slice())
+    push_block(first, steps, net, signal, made)
 }
 
 /// The steps of signals in order.
 fn push_signals(
-    alloc: Global,
     first: u32,
     steps: &mut Vec<Step>,
     net: &Netlist,
@@ -104,7 +100,7 @@ fn push_signals(
         (record { steps = steps.old.items; made = made.old.items }) visited.now).made) }
 {
     for signal in visited {
-        let number = push_signal(alloc, first, steps, net, levels, *signal, made.as_slice())?;
+        let number = push_signal(first, steps, net, levels, *signal, made.as_slice())?;
         made[*signal as usize] = number;
     }
     Ok(())
@@ -182,15 +178,7 @@ pub(crate) fn plan_visited(
     ensures kept_others { IsBlankBut wanted.now false marks.new.kept.items }
 {
     let mut steps = Vec::new(alloc);
-    push_signals(
-        alloc,
-        first,
-        &mut steps,
-        net,
-        levels,
-        visited,
-        &mut marks.made,
-    )?;
+    push_signals(first, &mut steps, net, levels, visited, &mut marks.made)?;
     mark_wanted(wanted, &mut marks.kept);
     push_drops(
         first,
