@@ -23,6 +23,10 @@ const NEITHER: &str = ".model m/.inputs a b/.names a b y/1- 0/-1 0/";
 
 const HYPHEN: &str = ".model m/.inputs a b/.names b a a y/0-1 1/.outputs y/";
 
+/// A block that reads ten words, some of them again, and has hyphens in both rows at some.
+const WIDE: &str =
+    ".model m/.inputs a b c d/.outputs y/.names b a b b d b a c b b y/1---0-0--- 1/---------1 1/";
+
 /// What is true where both operands are, where the left one alone is, where one is, and where not both are.
 const BOTH: Bin = Bin {
     v00: false,
@@ -253,6 +257,42 @@ fn plans_each_character_of_a_row(rt: HostRuntime) -> Result<(), Fail> {
     ];
     // The second column of the row asks for nothing, and the block reads `a` twice.
     assert!(rt; plans_so(rt.alloc(), HYPHEN, &[0, 1], &["y", "a"], 0, &steps)?);
+    Ok(())
+}
+
+#[test]
+fn plans_a_wide_block(rt: HostRuntime) -> Result<(), Fail> {
+    let steps = [
+        // The words as they are read first.
+        input(1),
+        input(0),
+        input(3),
+        input(2),
+        constant(false),
+        // The first row: `b`, and neither `d` nor `a`.
+        constant(true),
+        pair(BOTH, 5, 0),
+        gone(5),
+        pair(LEFT_ALONE, 6, 2),
+        gone(6),
+        pair(LEFT_ALONE, 8, 1),
+        gone(8),
+        pair(EITHER, 4, 10),
+        gone(4),
+        gone(10),
+        // The second row: the last word, which is `b` too.
+        constant(true),
+        pair(BOTH, 15, 0),
+        gone(15),
+        pair(EITHER, 12, 16),
+        gone(12),
+        gone(16),
+        gone(0),
+        gone(1),
+        gone(2),
+        gone(3),
+    ];
+    assert!(rt; plans_so(rt.alloc(), WIDE, &[0, 1, 2, 3], &["y"], 0, &steps)?);
     Ok(())
 }
 
