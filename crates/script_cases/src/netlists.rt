@@ -450,3 +450,61 @@ fn refuses_more_steps_than_there_may_be(rt: HostRuntime) -> Result<(), AllocErro
     assert!(rt; counts_steps(rt.alloc())?);
     Ok(())
 }
+
+/// One input, and a block that reads it so many times and has a row of hyphens alone.
+fn many_words(alloc: Global, words: usize) -> Result<Vec<u8>, AllocError> {
+    let mut text = Vec::new(alloc);
+    text.extend_from_slice(b".model m\n.inputs a\n.outputs f\n.names")?;
+    for _word in 0..words {
+        text.extend_from_slice(b" a")?;
+    }
+    text.extend_from_slice(b" f\n")?;
+    let row = vec![in alloc; b'-'; words]?;
+    text.extend_from_slice(row.as_slice())?;
+    text.extend_from_slice(b" 1\n")?;
+    Ok(text)
+}
+
+/// So many lines that ask for the block. Each has its number for a name.
+fn many_lines(alloc: Global, lines: u32) -> Result<Vec<u8>, AllocError> {
+    let mut text = Vec::new(alloc);
+    text.extend_from_slice(b"inputs")?;
+    for number in 0..lines {
+        text.extend_from_slice(b"\nnet ")?;
+        for digit in [
+            number / 1000,
+            number / 100 % 10,
+            number / 10 % 10,
+            number % 10,
+        ] {
+            text.push(b'0' + (digit % 10) as u8)?;
+        }
+        text.extend_from_slice(b" f")?;
+    }
+    Ok(text)
+}
+
+/// Whether each of 5,000 lines has its seven steps: the input, the first sum, the cube, their sum, the drops of both, and
+/// the drop of the input.
+fn counts_lines_of_a_wide_block(alloc: Global) -> Result<bool, AllocError> {
+    let net = many_words(alloc, 20000)?;
+    let text = many_lines(alloc, 5000)?;
+    let Ok(net) = read_netlist(alloc, net.as_slice()) else {
+        return Ok(false);
+    };
+    let Ok(plan) = read_with(alloc, text.as_slice(), Some(&net)) else {
+        return Ok(false);
+    };
+    let last = LineEnd {
+        line: 5001,
+        last: 34999,
+        shows: 34996,
+    };
+    Ok(plan.steps.items().len() == 35000 && plan.lines.items().last() == Some(&last))
+}
+
+#[test]
+fn plans_many_lines_of_a_wide_block(rt: HostRuntime) -> Result<(), AllocError> {
+    assert!(rt; counts_lines_of_a_wide_block(rt.alloc())?);
+    Ok(())
+}
