@@ -46,9 +46,12 @@ pub fn choice_of(
     Ok(made)
 }
 
-/// The bit of a level in the places of a table.
+/// The bit of a level in the places of a table, or 0 where the table isn't of so many variables.
 fn bit(n: u32, level: u32) -> usize {
-    1usize << n.saturating_sub(1).saturating_sub(level).min(20)
+    match n.checked_sub(level) {
+        None | Some(0) => 0,
+        Some(below) => 1usize << (below - 1).min(20),
+    }
 }
 
 /// The table in which a variable has a value.
