@@ -1,0 +1,277 @@
+//! What sweeps are to do, and folders that hold it.
+ghost use Rattle.std.specs.Prelude.{◌≡◌, ◌≤◌, ◌^◌};
+
+use crate::asked::Meant;
+use crate::diagrams::Assignment;
+use crate::shapes::{Shape, value_at};
+use arc_file::Unreduced;
+use case_lives::{ENDS, INNER};
+use case_tables::{
+    FIRST, Random, SECOND, THIRD, bench_of, choice_of, product_of, put_bytes, quantified_of,
+    restricted_of,
+};
+use rec_words::Ptr;
+use shelf_memory::Bench;
+use shelf_model::FileNo;
+use std::alloc::{AllocError, Global};
+use std::test::Fail;
+
+/// A word of a script, behind which the bits of an evaluation stand.
+const BEFORE: [u8; 5] = *b"eval ";
+
+/// Three operators: of "or", of "left and not right", whose arcs an implication makes, and of "not left".
+const OR: u32 = 0b1110;
+
+const REFUTES: u32 = 0b0100;
+
+const NOT: u32 = 0b0011;
+
+/// What a table is compared with.
+#[derive(Clone, Copy)]
+pub(crate) enum Other {
+    /// Itself.
+    Same,
+    /// Its complement, which has as many nodes.
+    Complement,
+    /// One that asks for the other value of the last variable: of all nodes only the deepest one is another one.
+    Opposite,
+}
+
+/// What a sweep is to do.
+#[derive(Clone, Copy)]
+pub(crate) enum Kind {
+    /// An operation from the root down, by its own type.
+    Own(Meant),
+    /// The same as the operation of a step.
+    OfStep(Meant),
+    /// Whether the first table implies the second one, which holds or is left to chance.
+    Implication(bool),
+    /// The canonical file of the first table, from arcs of that shape.
+    Reduction(Shape),
+    /// The comparison of the first table with another one.
+    Comparison(Other),
+    /// The value of the first table at a place.
+    Value(usize),
+    /// The copy of the file of the first table as far as so many pieces.
+    Copy(u64),
+}
+
+/// What a sweep is to do on random tables of so many variables, at most twelve.
+#[derive(Clone, Copy)]
+pub(crate) struct Plan {
+    pub(crate) kind: Kind,
+    pub(crate) variables: u32,
+    pub(crate) seed: u64,
+}
+
+/// A plan with its tables, the text that its sweep reads, and the table that it makes or reads from.
+#[derive(Drop)]
+pub(crate) struct Case {
+    pub(crate) kind: Kind,
+    variables: u32,
+    first: Vec<bool>,
+    second: Vec<bool>,
+    third: Vec<bool>,
+    pub(crate) text: Vec<u8>,
+    pub(crate) wanted: Vec<bool>,
+}
+
+// What a table has where the last variable is 1, and the last variable has a value itself.
+fn with_last(alloc: Global, table: &[bool], value: usize) -> Result<Vec<bool>, AllocError> {
+    let mut made = Vec::new(alloc);
+    for place in 0..table.len() {
+        let above = value_at(table, place | 1);
+        made.push(above && place & 1 == value)?;
+    }
+    Ok(made)
+}
+
+// The first table, from a random one.
+fn first_of(alloc: Global, kind: Kind, random: &[bool]) -> Result<Vec<bool>, AllocError> {
+    match kind {
+        Kind::Reduction(shape) => shape.table(alloc, random),
+        Kind::Comparison(Other::Opposite) => with_last(alloc, random, 1),
+        _ => Vec::from_slice(alloc, random),
+    }
+}
+
+// The second table, from the first and another random one. A quantifier reads one table twice.
+fn second_of(
+    alloc: Global,
+    kind: Kind,
+    first: &[bool],
+    random: &[bool],
+) -> Result<Vec<bool>, AllocError> {
+    match kind {
+        Kind::Own(Meant::Quantifier(_, _)) | Kind::OfStep(Meant::Quantifier(_, _)) => {
+            Vec::from_slice(alloc, first)
+        }
+        Kind::Comparison(Other::Same) => Vec::from_slice(alloc, first),
+        Kind::Comparison(Other::Opposite) => with_last(alloc, first, 0),
+        Kind::Comparison(Other::Complement) => product_of(alloc, NOT, first, first),
+        Kind::Implication(true) => product_of(alloc, OR, first, random),
+        _ => Vec::from_slice(alloc, random),
+    }
+}
+
+// What an operation makes of three tables of n variables.
+fn made_of(
+    alloc: Global,
+    meant: Meant,
+    n: u32,
+    first: &[bool],
+    second: &[bool],
+    third: &[bool],
+) -> Result<Vec<bool>, AllocError> {
+    match meant {
+        Meant::Operator(digits) => product_of(alloc, digits, first, second),
+        Meant::Choice => choice_of(alloc, first, second, third),
+        Meant::Quantifier(kind, level) => quantified_of(alloc, n, kind, level, first),
+        Meant::Restriction(level, value) => restricted_of(alloc, n, level, value, first),
+    }
+}
+
+// The text whose bits are those of a place.
+fn text_of(alloc: Global, at: Assignment) -> Result<Vec<u8>, AllocError> {
+    let mut text = Vec::from_slice(alloc, &BEFORE)?;
+    for level in 0..at.variables {
+        text.push(if at.bit(u64::from(level)) { b'1' } else { b'0' })?;
+    }
+    Ok(text)
+}
+
+impl Kind {
+    // The operation whose arcs its sweep makes.
+    fn operation(self) -> Option<Meant> {
+        match self {
+            Kind::Own(meant) | Kind::OfStep(meant) => Some(meant),
+            Kind::Implication(_) => Some(Meant::Operator(REFUTES)),
+            _ => None,
+        }
+    }
+
+    /// The number of its sweep in a step.
+    pub(crate) fn sweep(self) -> u32
+        ensures { result ≤ 1 }
+    {
+        match self {
+            Kind::Reduction(_) => 1,
+            _ => 0,
+        }
+    }
+}
+
+impl Case {
+    /// That of a plan.
+    pub(crate) fn of(alloc: Global, plan: Plan) -> Result<Case, AllocError> {
+        let (kind, n) = (plan.kind, plan.variables.min(12));
+        let mut random = Random::new(plan.seed);
+        let one = random.table(alloc, n, usize::MAX)?;
+        let two = random.table(alloc, n, usize::MAX)?;
+        let third = random.table(alloc, n, usize::MAX)?;
+        let first = first_of(alloc, kind, one.as_slice())?;
+        let second = second_of(alloc, kind, first.as_slice(), two.as_slice())?;
+        let wanted = match kind.operation() {
+            Some(meant) => {
+                let (a, b) = (first.as_slice(), second.as_slice());
+                made_of(alloc, meant, n, a, b, third.as_slice())?
+            }
+            None => Vec::from_slice(alloc, first.as_slice())?,
+        };
+        let place = match kind {
+            Kind::Value(place) => place,
+            _ => 0,
+        };
+        let text = text_of(
+            alloc,
+            Assignment {
+                variables: n,
+                place,
+            },
+        )?;
+        Ok(Case {
+            kind,
+            variables: n,
+            first,
+            second,
+            third,
+            text,
+            wanted,
+        })
+    }
+
+    /// How many variables its tables have.
+    pub(crate) fn variables(&self) -> u32
+        ensures { result ≤ 12 }
+    {
+        self.variables.min(12)
+    }
+
+    /// A folder with its files.
+    pub(crate) fn bench(&self, alloc: Global) -> Result<Bench, Fail> {
+        let n = self.variables();
+        let (first, second) = (self.first.as_slice(), self.second.as_slice());
+        let mut bench = bench_of(alloc, n, [first, second, self.third.as_slice()])?;
+        if let Kind::Reduction(shape) = self.kind {
+            let inner = shape.inner(alloc, n)?;
+            let ends = shape.ends(alloc, n, first)?;
+            put_bytes(&mut bench, INNER, inner.as_slice())?;
+            put_bytes(&mut bench, ENDS, ends.as_slice())?;
+        }
+        Ok(bench)
+    }
+
+    /// The answer that its sweep has to give, if it is to give one.
+    pub(crate) fn answer(&self) -> Option<bool> {
+        match self.kind {
+            Kind::Implication(_) => Some(!has_one(self.wanted.as_slice())),
+            Kind::Comparison(_) => Some(self.first.as_slice() == self.second.as_slice()),
+            Kind::Value(place) => self.first.as_slice().get(place).copied(),
+            _ => None,
+        }
+    }
+
+    /// The files of its operands.
+    pub(crate) fn operands(&self) -> [FileNo; 3] {
+        match self.kind {
+            Kind::Implication(_) => [FIRST, SECOND, SECOND],
+            _ => [FIRST, SECOND, THIRD],
+        }
+    }
+
+    /// The operation whose checkpoints its sweep saves, and whether their words are those of a step's operation.
+    pub(crate) fn saved_operation(&self) -> Option<(Meant, bool)> {
+        let of_step = match self.kind {
+            Kind::OfStep(_) => true,
+            _ => false,
+        };
+        match self.kind.operation() {
+            Some(meant) => Some((meant, of_step)),
+            None => None,
+        }
+    }
+}
+
+/// The arcs that stand in a folder, whose root is the first node of level 0.
+pub(crate) fn arcs_in(bench: &Bench) -> Unreduced
+    ensures files { (result.inner ≡ INNER) × (result.ends ≡ ENDS) }
+    ensures few { (result.inner_count ≤ 2 ^ 46) × (result.ends_count ≤ 2 ^ 46) }
+{
+    let (inner, ends) = (bench.file(INNER).len() / 16, bench.file(ENDS).len() / 16);
+    Unreduced {
+        root: Ptr::node(0, 0),
+        inner: INNER,
+        inner_count: (inner as u64).min(1 << 20),
+        ends: ENDS,
+        ends_count: (ends as u64).min(1 << 20),
+    }
+}
+
+fn has_one(table: &[bool]) -> bool {
+    for value in table {
+        if *value {
+            return true;
+        }
+    }
+    false
+}
