@@ -214,13 +214,12 @@ impl<'a> Scene<'a> {
     }
 }
 
-/// A sweep whose checkpoints behind every few turns are changed; and how many changes are noticed at least.
+/// A sweep whose checkpoints, one behind each turn, are changed; and how many changes are noticed at least.
 #[derive(Clone, Copy)]
 struct Row {
     name: &'static str,
     kind: Kind,
     variables: u32,
-    every: u64,
     least: u64,
 }
 
@@ -232,11 +231,11 @@ fn change_each(alloc: Global, row: &Row) -> Result<u64, Fail> {
         variables: row.variables,
         seed: 3,
     };
-    change_plan(alloc, plan, row.every, records.as_mut_slice())
+    change_plan(alloc, plan, records.as_mut_slice())
 }
 
 // The same in a room.
-fn change_plan(alloc: Global, plan: Plan, every: u64, room: &mut [Rec]) -> Result<u64, Fail>
+fn change_plan(alloc: Global, plan: Plan, room: &mut [Rec]) -> Result<u64, Fail>
     requires { 16384 ≤ length room.old }
 {
     let case = Case::of(alloc, plan)?;
@@ -249,7 +248,7 @@ fn change_plan(alloc: Global, plan: Plan, every: u64, room: &mut [Rec]) -> Resul
     };
     let mut changes = 0u64;
     for _life in 0..MOST_LIVES {
-        let lived = live_on(&case, every, room, &mut bench)?;
+        let lived = live_on(&case, 1, room, &mut bench)?;
         if lived.ok_or("a checkpoint that doesn't fit")?.turn == Turn::Ended {
             return Ok(changes);
         }
@@ -264,57 +263,49 @@ const ROWS: &[Row] = &[
         name: "a step's operator",
         kind: Kind::OfStep(Meant::Operator(6)),
         variables: 3,
-        every: 5,
-        least: 1,
+        least: 600,
     },
     Row {
         name: "an operator",
         kind: Kind::Own(Meant::Operator(9)),
         variables: 3,
-        every: 5,
-        least: 1,
+        least: 600,
     },
     Row {
         name: "an implication",
         kind: Kind::Implication(true),
         variables: 3,
-        every: 5,
-        least: 1,
+        least: 500,
     },
     Row {
         name: "a reduction of a tree",
         kind: Kind::Reduction(Shape::Tree),
         variables: 3,
-        every: 5,
-        least: 1,
+        least: 1500,
     },
     Row {
         name: "a reduction of nodes with two arcs to them",
         kind: Kind::Reduction(Shape::Counting),
         variables: 4,
-        every: 5,
-        least: 1,
+        least: 2500,
     },
     Row {
         name: "a comparison",
         kind: Kind::Comparison(Other::Complement),
         variables: 4,
-        every: 1,
-        least: 1,
+        least: 150,
     },
     Row {
         name: "an evaluation",
         kind: Kind::Value(5),
         variables: 4,
-        every: 1,
-        least: 1,
+        least: 200,
     },
     Row {
         name: "a copy",
         kind: Kind::Copy(3),
         variables: 10,
-        every: 1,
-        least: 1,
+        least: 150,
     },
 ];
 
