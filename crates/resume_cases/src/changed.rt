@@ -1,8 +1,9 @@
 //! Checkpoints in which a word is another one.
 ghost use Rattle.std.specs.Prelude.{◌≤◌, length};
 
-use crate::lives::{EMPTY, Lived, MADE, STEP, Way, going_from, live_from, live_on, room_len};
+use crate::lives::{live_from, live_on};
 use crate::plans::{Case, FEW, Plan};
+use case_lives::{EMPTY, Lived, MADE, STEP, Way, going_from, room_len};
 use case_tables::{FIRST, SECOND, put_bytes};
 use file_numbers::{checkpoint_file, checkpoint_gate};
 use rec_words::Rec;
@@ -111,7 +112,7 @@ fn ends(
     requires { 16384 ≤ length room.old }
 {
     let most = most_turns(case.plan, point, bench);
-    let mut going = going_from(BUDGET, Some(*point));
+    let mut going = going_from(0, BUDGET, Some(*point));
     let lived = live_from(case, Way::Unsaved(most), &mut going, room, bench);
     let (words, _) = words_of(case.plan);
     let same = place >= words || point.carry == saved.carry;

@@ -1,9 +1,10 @@
 //! Sweeps that run to their end with checkpoints at times, where each call fails in turn, and a stop comes behind it.
 ghost use Rattle.std.specs.Prelude.{◌≤◌, length};
 
-use crate::lives::{EMPTY, Lived, Way, live_on, room_len};
+use crate::lives::live_on;
 use crate::plans::{Case, FEW, PLANS, Plan};
 use crate::saved::turns_of;
+use case_lives::{EMPTY, Lived, Way, room_len};
 use rec_words::Rec;
 use shelf_memory::Choice;
 use shelf_model::SortFault;

@@ -1,22 +1,18 @@
 //! Operations that are saved behind every few turns, stopped, and rebuilt in another room.
-ghost use Rattle.std.specs.Prelude.{◌≡◌, ◌≤◌, IsTrue, length};
-ghost use Rattle.sweep_core.specs.Saving.{IsOfStep};
-ghost use Rattle.shelf_memory.specs.Benches.{tells_of, world_of};
+ghost use Rattle.std.specs.Prelude.{◌≤◌, length};
 
-use crate::lives::{EMPTY, STEP, going_from, make_some, room_len, unfilled};
 use bool_tables::Quant;
-use case_tables::{FIRST, Random, SECOND, THIRD, bench_of, operator};
+use case_lives::{EMPTY, ENDS, INNER, Lived, STEP, Way, going_from, operate, room_len};
+use case_tables::{Random, bench_of, operator};
 use rec_words::Rec;
-use run_tiers::Parts;
 use shelf_memory::{Bench, Choice};
-use shelf_model::{FileNo, SortFault};
+use shelf_model::SortFault;
 use std::alloc::Global;
 use std::test::Fail;
-use sweep_checkpoint::{load, save};
-use sweep_core::{Sweep, Turn};
+use sweep_checkpoint::load;
+use sweep_core::Turn;
 use top_down_sweep::{
-    Choice as IfThenElse, Files, Operation, Product, Quantified, Restricted, StepOperation,
-    TopDownSweep,
+    Choice as IfThenElse, Operation, Product, Quantified, Restricted, StepOperation,
 };
 
 const BUDGET: u32 = 0x4000;
@@ -25,16 +21,6 @@ const BUDGET: u32 = 0x4000;
 const MOST_LIVES: u64 = 2000;
 
 const VARIABLES: u32 = 3;
-
-const FILES: Files = Files {
-    first: FIRST,
-    second: SECOND,
-    third: THIRD,
-    inner: FileNo { step: 7, part: 3 },
-    ends: FileNo { step: 7, part: 4 },
-};
-
-const PARTS: Parts = Parts { step: 7, next: 5 };
 
 /// Behind how many turns the sweep is saved, and which images are taken.
 const STOPS: [(u64, Choice); 4] = [
@@ -57,54 +43,30 @@ fn folder(alloc: Global) -> Result<Bench, Fail> {
     )
 }
 
-// Makes turns of a sweep, at most so many, and saves it where it hasn't ended. The turns of the step are answered with
-// the last one.
-fn live<'r, P: Sweep<'r>>(
-    sweep: &mut P,
-    before: u64,
-    most: u64,
-    bench: &mut Bench,
-) -> Result<(Turn, u64), SortFault>
-    requires ready { P.ready sweep.old }
-    requires in_step { IsTrue (tells_of bench.old) → P.in_step sweep.old (world_of bench.old) }
-    requires files { IsOfStep (P.accounts.makes sweep.old) (P.saving.operands (P.task sweep.old))
-        (P.accounts.step sweep.old) (P.accounts.next sweep.old) }
-    requires step { P.accounts.step sweep.old ≡ 7 }
-{
-    let mut going = going_from(BUDGET, None);
-    going.turns = before;
-    let made = make_some(sweep, most, &mut going, bench)?;
-    if made.turn == Turn::More && made.turns > 0 {
-        let mut point = unfilled(&going);
-        sweep.carry(bench, &mut point)?;
-        save(&point, bench)?;
-    }
-    Ok((made.turn, going.turns))
-}
-
 // A life of an operation, which begins or goes on from its last checkpoint. None is answered where that isn't its.
 fn one_life<O: Operation>(
     operation: O,
     most: u64,
     room: &mut [Rec],
     bench: &mut Bench,
-) -> Result<Option<(Turn, u64)>, SortFault>
+) -> Result<Option<Lived>, SortFault>
     requires { 16384 ≤ length room.old }
 {
-    let Some(point) = load(STEP, bench)? else {
-        let mut sweep = TopDownSweep::start(operation, VARIABLES, FILES, PARTS, room, bench)?;
-        return Ok(Some(live(&mut sweep, 0, most, bench)?));
-    };
-    if !TopDownSweep::<O>::fits(&point) || point.step != STEP {
-        return Ok(None);
-    }
-    let mut sweep = TopDownSweep::<O>::rebuild(&point, &[], room, bench)?;
-    Ok(Some(live(&mut sweep, point.turns, most, bench)?))
+    let last = load(STEP, bench)?;
+    let mut going = going_from(0, BUDGET, last);
+    operate(
+        operation,
+        VARIABLES,
+        Way::Saved(most),
+        &mut going,
+        room,
+        bench,
+    )
 }
 
 // Whether two folders have the same arcs.
 fn same_arcs(a: &Bench, b: &Bench) -> bool {
-    a.file(FILES.inner) == b.file(FILES.inner) && a.file(FILES.ends) == b.file(FILES.ends)
+    a.file(INNER) == b.file(INNER) && a.file(ENDS) == b.file(ENDS)
 }
 
 // Whether an operation that is saved, stopped and rebuilt behind every few turns makes the same arcs in as many turns
@@ -131,8 +93,13 @@ fn comes_back<O: Operation>(
         };
         match lived {
             None => return Ok(false),
-            Some((Turn::Ended, _turns)) => return Ok(lived == whole && same_arcs(&bench, &wanted)),
-            Some((Turn::More, _turns)) => {}
+            Some(
+                Lived {
+                    turn: Turn::Ended,
+                    ..
+                },
+            ) => return Ok(lived == whole && same_arcs(&bench, &wanted)),
+            Some(_) => {}
         }
         bench = bench.stop(choice)?;
     }

@@ -9,9 +9,6 @@ use std::test::Fail;
 /// A word of a script, behind which the bits stand.
 const BEFORE: [u8; 5] = *b"eval ";
 
-/// Where the bits stand in the text.
-pub(crate) const AT: u32 = 5;
-
 /// What a sweep is to do.
 #[derive(Clone, Copy, Debug, PartialEq, Eq)]
 pub(crate) enum Plan {

@@ -1,29 +1,17 @@
 //! Reductions that are saved behind every few turns, stopped, and rebuilt in another room.
-ghost use Rattle.std.specs.Prelude.{◌≡◌, ◌≤◌, ◌^◌, IfOk, IsTrue, length};
-ghost use Rattle.sweep_core.specs.Saving.{IsOfStep};
-ghost use Rattle.shelf_memory.specs.Benches.{tells_of, world_of};
-ghost use Rattle.reduce_sweep.specs.Calls.{IsInStep};
-ghost use Rattle.reduce_sweep.specs.Resumes.{IsOperand};
-ghost use Rattle.reduce_sweep.specs.Sweeps.{out_of, task_of, IsSound};
+ghost use Rattle.std.specs.Prelude.{◌≡◌, ◌≤◌, ◌^◌, IfOk, length};
 
-use crate::lives::{EMPTY, STEP, room_len};
 use arc_file::{Arc, ArcWriter, Unreduced};
+use case_lives::{EMPTY, ENDS, INNER, Lived, OUT, STEP, Way, going_from, reduce, room_len};
 use case_tables::{Random, canon_of};
 use rec_words::{Ptr, Rec, Uid};
 use reduce_sweep::{ReduceSweep, ended_point};
-use run_tiers::{Parts, Run};
+use run_tiers::Run;
 use shelf_memory::{Bench, Choice};
-use shelf_model::FileNo;
 use std::alloc::Global;
 use std::test::Fail;
-use sweep_checkpoint::{load, save};
+use sweep_checkpoint::load;
 use sweep_core::{Checkpoint, Sweep, Turn, run_some};
-
-const INNER: FileNo = FileNo { step: 7, part: 3 };
-
-const ENDS: FileNo = FileNo { step: 7, part: 4 };
-
-const OUT: FileNo = FileNo { step: 7, part: 0 };
 
 const BUDGET: u32 = 0x4000;
 
@@ -43,13 +31,6 @@ const NO_RUN: Run = Run {
     next: 0,
     end: 0,
 };
-
-/// How many nodes a reduction has made, once it has ended, and how many turns were made in all.
-#[derive(Clone, Copy, Debug, PartialEq, Eq)]
-struct Lived {
-    count: Option<u64>,
-    turns: u64,
-}
 
 // The node of that number in its level, as an identifier.
 fn uid_at(level: u32, number: u64) -> Result<Uid, Fail> {
@@ -105,32 +86,6 @@ fn unfilled(turns: u64) -> Checkpoint
     }
 }
 
-// So many turns of a reduction, behind which it is saved where it goes on.
-fn live(
-    sweep: &mut ReduceSweep<'_>,
-    every: u64,
-    before: u64,
-    bench: &mut Bench,
-) -> Result<Lived, Fail>
-    requires ready { IsSound sweep.old }
-    requires in_step { IsTrue (tells_of bench.old) → IsInStep sweep.old (world_of bench.old) }
-    requires files { IsOfStep (λ f. f ≡ out_of sweep.old) (IsOperand (task_of sweep.old)) sweep.old.parts.step
-        sweep.old.parts.next }
-    requires step { sweep.old.parts.step ≡ 7 }
-{
-    let made = run_some(sweep, every, bench)?;
-    let turns = before.saturating_add(made.turns);
-    if made.turn == Turn::More && made.turns > 0 {
-        let mut point = unfilled(turns);
-        sweep.carry(bench, &mut point)?;
-        save(&point, bench)?;
-    }
-    Ok(Lived {
-        count: sweep.count(),
-        turns,
-    })
-}
-
 // A life of the reduction: it begins, or goes on from the last checkpoint.
 fn live_on(
     n: u32,
@@ -144,19 +99,10 @@ fn live_on(
     requires files { (made.now.inner ≡ INNER) × (made.now.ends ≡ ENDS) }
     requires few { (made.now.inner_count ≤ 2 ^ 46) × (made.now.ends_count ≤ 2 ^ 46) }
 {
-    let Some(point) = load(STEP, bench)? else {
-        let parts = Parts {
-            step: STEP,
-            next: 5,
-        };
-        let mut sweep = ReduceSweep::start(n, *made, OUT, parts, room, bench)?;
-        return live(&mut sweep, every, 0, bench);
-    };
-    if !ReduceSweep::fits(&point) || point.step != STEP {
-        return Err(Fail::from("a checkpoint that doesn't fit"));
-    }
-    let mut sweep = ReduceSweep::rebuild(&point, &[], room, bench)?;
-    live(&mut sweep, every, point.turns, bench)
+    let last = load(STEP, bench)?;
+    let mut going = going_from(1, BUDGET, last);
+    let lived = reduce(n, *made, Way::Saved(every), &mut going, room, bench)?;
+    Ok(lived.ok_or("a checkpoint that doesn't fit")?)
 }
 
 // How a reduction ends that is saved and rebuilt behind every few turns. Lives are in two rooms in turn.
@@ -183,7 +129,7 @@ fn ends_with(
             live_on(n, &made, every, other, &mut bench)?
         };
         bench = bench.stop(choice)?;
-        if lived.count.is_some() {
+        if lived.turn == Turn::Ended {
             return Ok((lived, bench));
         }
     }
@@ -225,16 +171,17 @@ fn ends_again(n: u32, lived: Lived, room: &mut [Rec], bench: Bench) -> Result<bo
     requires { 16384 ≤ length room.old }
 {
     let mut bench = bench;
-    let mut point = unfilled(lived.turns);
-    ended_point(&mut point, OUT, n, lived.count.unwrap_or(0).min(1 << 20), 5);
     let bytes = bench.file(OUT).len();
+    let count = (bytes / 24).saturating_sub(1).min(1 << 20) as u64;
+    let mut point = unfilled(lived.turns);
+    ended_point(&mut point, OUT, n, count, 5);
     let fits = ReduceSweep::fits(&point);
     if !fits {
         return Ok(false);
     }
     let mut sweep = ReduceSweep::rebuild(&point, &[], room, &mut bench)?;
     let made = run_some(&mut sweep, 1, &mut bench)?;
-    let ended = made.turn == Turn::Ended && sweep.count() == lived.count;
+    let ended = made.turn == Turn::Ended && sweep.count() == Some(count);
     Ok(ended && bench.file(OUT).len() == bytes)
 }
 

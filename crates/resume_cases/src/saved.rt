@@ -1,8 +1,9 @@
 //! Sweeps that are saved behind every few turns, stopped, and rebuilt in another room.
 ghost use Rattle.std.specs.Prelude.{◌≤◌, length};
 
-use crate::lives::{EMPTY, Lived, Way, live_on, room_len};
+use crate::lives::live_on;
 use crate::plans::{Case, PLANS, Plan};
+use case_lives::{EMPTY, Lived, Way, room_len};
 use rec_words::Rec;
 use shelf_memory::Choice;
 use std::alloc::Global;

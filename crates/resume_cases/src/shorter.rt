@@ -1,6 +1,7 @@
 //! Checkpoint files that are shorter than their gate says.
-use crate::lives::{EMPTY, STEP, Way, going_from, live_from, room_len};
+use crate::lives::live_from;
 use crate::plans::{FEW, Plan};
+use case_lives::{EMPTY, STEP, Way, going_from, room_len};
 use case_tables::put_bytes;
 use file_numbers::{checkpoint_file, checkpoint_gate};
 use shelf_model::{FileNo, SortFault};
@@ -27,7 +28,7 @@ fn names(alloc: Global, plan: Plan, gated: usize, bytes: usize, at: u64) -> Resu
     put_bytes(&mut bench, checkpoint_file(STEP), points.as_slice())?;
     let mut records = vec![in alloc; EMPTY; room_len(0)]?;
     let room = records.as_mut_slice();
-    let mut going = going_from(1, None);
+    let mut going = going_from(0, 1, None);
     let lived = live_from(&case, Way::ToEnd, &mut going, room, &mut bench);
     let file = FileNo { step: 7, part: 1 };
     Ok(lived == Err(SortFault::Damaged { file, at }))

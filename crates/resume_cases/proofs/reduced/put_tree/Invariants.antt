@@ -1,7 +1,7 @@
 use Rattle.std.proofs.Common.{◌≡◌, IsTrue}
 use Rattle.arc_file.specs.Writers.{AreInStep, inner_file, ends_file}
 use Rattle.shelf_memory.specs.Benches.{tells_of, world_of}
-use Rattle.resume_cases.specs.declared.reduced.TheConstants.{INNER, ENDS}
+use Rattle.case_lives.specs.declared.life.TheConstants.{INNER, ENDS}
 use Rattle.resume_cases.proofs.reduced.put_tree.Given as goal
 
 -- the writer is in step with its files, which are the two
