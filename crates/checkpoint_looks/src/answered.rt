@@ -14,6 +14,23 @@ fn rest_of(bytes: &[u8], from: usize) -> Option<&[u8]> {
     bytes.get(from..bytes.len())
 }
 
+// Whether both are there, with the same bytes.
+fn are_same(a: Option<&[u8]>, b: Option<&[u8]>) -> bool {
+    match (a, b) {
+        (Some(a), Some(b)) => a == b,
+        _ => false,
+    }
+}
+
+// Whether what is left of two files is equal, so many bytes of each; none where what they gave differs.
+fn left_equal(first: &[u8], second: &[u8], left: usize, second_left: usize) -> Option<bool> {
+    if are_same(rest_of(first, left), rest_of(second, second_left)) {
+        Some(are_same(first.get(0..left), second.get(0..second_left)))
+    } else {
+        None
+    }
+}
+
 /// Refuses a comparison whose answer isn't that one; while it isn't known, where nodes were given that differ, or what
 /// is left doesn't give it. The files have these nodes, without their trailers.
 pub(crate) fn check_same(
@@ -34,11 +51,8 @@ pub(crate) fn check_same(
     let first = (point.carried(3) as usize).saturating_add(ahead);
     let first = first.saturating_mul(NODE);
     let second = (point.carried(6) as usize).saturating_mul(NODE);
-    let behind = rest_of(nodes[0], first);
-    let given = behind.is_some() && behind == rest_of(nodes[1], second);
-    let left = nodes[0].get(0..first) == nodes[1].get(0..second);
-    let even = nodes[0].len().saturating_sub(first) == nodes[1].len().saturating_sub(second);
-    ask_for(given && even && left == wanted, Wrong::Value)
+    let same = left_equal(nodes[0], nodes[1], first, second);
+    ask_for(same == Some(wanted), Wrong::Value)
 }
 
 // Whether the path of an assignment meets that pointer.
@@ -107,6 +121,6 @@ pub(crate) fn check_copy(
     let whole = count == stand.saturating_mul(PIECE).min(bytes[0].len() as u64);
     ask_for(whole && stand <= pieces, Wrong::Nodes)?;
     let end = count as usize;
-    let made = bytes[1].get(0..end);
-    ask_for(made.is_some() && made == bytes[0].get(0..end), Wrong::Nodes)
+    let same = are_same(bytes[0].get(0..end), bytes[1].get(0..end));
+    ask_for(same, Wrong::Nodes)
 }

@@ -45,17 +45,32 @@ fn look_at(alloc: Global, plan: Plan, every: u64, room: &mut [Rec]) -> Result<u6
     requires { 16384 ≤ length room.old }
 {
     let case = Case::of(alloc, plan)?;
-    let mut bench = case.bench(alloc)?;
+    let bench = case.bench(alloc)?;
     let looked = Looked::of(alloc, &case, &bench)?;
+    look_from(alloc, &case, &looked, every, room, bench)
+}
+
+// The same from the folder on in which it begins.
+fn look_from(
+    alloc: Global,
+    case: &Case,
+    looked: &Looked,
+    every: u64,
+    room: &mut [Rec],
+    bench: Bench,
+) -> Result<u64, Fail>
+    requires { 16384 ≤ length room.old }
+{
+    let mut bench = bench;
     for life in 0..MOST_LIVES {
-        let lived = live_on(&case, every, room, &mut bench)?;
+        let lived = live_on(case, every, room, &mut bench)?;
         let lived = lived.ok_or("a checkpoint that doesn't fit")?;
         if lived.turn == Turn::Ended {
             ask_for(looked.is_answered(lived.answer), Wrong::Value)?;
             return Ok(life);
         }
         bench = left_by(bench, life)?;
-        look(alloc, &case, &looked, &bench)?;
+        look(alloc, case, looked, &bench)?;
     }
     Err(Fail::from("no end"))
 }

@@ -246,13 +246,20 @@ fn change_plan(alloc: Global, plan: Plan, room: &mut [Rec]) -> Result<u64, Fail>
         case: &case,
         looked: &looked,
     };
+    change_lives(scene, room, &mut bench)
+}
+
+// The same of the sweep of a case, in the folder in which it begins.
+fn change_lives(scene: Scene<'_>, room: &mut [Rec], bench: &mut Bench) -> Result<u64, Fail>
+    requires { 16384 ≤ length room.old }
+{
     let mut changes = 0u64;
     for _life in 0..MOST_LIVES {
-        let lived = live_on(&case, 1, room, &mut bench)?;
+        let lived = live_on(scene.case, 1, room, bench)?;
         if lived.ok_or("a checkpoint that doesn't fit")?.turn == Turn::Ended {
             return Ok(changes);
         }
-        changes = changes.saturating_add(scene.change_all(&mut bench)?);
+        changes = changes.saturating_add(scene.change_all(bench)?);
     }
     Err(Fail::from("no end"))
 }
