@@ -13,8 +13,9 @@ build() {
         exec 9<&-
         return
     fi
-    say "proving and building the program: the first time about an hour on two processors, and less on more"
-    mkdir -p "$folder/out" && : >"$folder/out/started" || exit 1
+    say "proving and building the program: the first time about an hour on two processors, less on more," \
+        "and 9 GB of disk"
+    mkdir -p "$folder/out" && : >"$folder/out/started" || end_unwritten
     seconds began
     working='' proved='' count=0
     on_signals stop_build
@@ -47,7 +48,7 @@ clear_rooms() {
         [ ! -d "$out" ] || [ -e "$crate/out" ] || mv "$out" "$crate/out"
     done
     rm -rf "$rooms"
-    mkdir -p "$rooms" || exit 1
+    mkdir -p "$rooms" || end_unwritten
 }
 
 # Sets crates to the program and the libraries that it stands on, those with the most lines of code in a chain above
@@ -71,7 +72,7 @@ read_crates() {
             return chains[name] = most + lines[name] + 1
         }
         END { need("adiar_cli"); for (name in needed) print chain(name), name, uses[name] }
-    ' - "$top/crates.txt" | sort -rn >"$rooms/plan"
+    ' - "$top/crates.txt" | sort -rn >"$rooms/plan" || end_unwritten
     crates='' left=''
     while read -r _ crate uses; do
         below=
@@ -155,8 +156,9 @@ start_lanes() {
         [ "$jobs" -le 4 ] || jobs=4
         take_room
         [ "$1" != adiar_cli ] || exec 9<&-
+        write_ahead "$rooms/$1.log" || fail_build "$1"
         held=yes
-        lane "$1" "$room" "$jobs" >"$rooms/$1.log" 2>&1 </dev/null &
+        lane "$1" "$room" "$jobs" 1<>"$rooms/$1.log" 2>&1 </dev/null &
         working="$working $1:$room:$jobs:$!"
         held=
         [ -z "$asked" ] || stop_build
@@ -279,13 +281,42 @@ stop_build() {
 fail_build() {
     end_lanes
     end_line
+    trim_log "$rooms/$1.log"
+    say_log "$rooms/$1.log"
+    ! is_full "$rooms/$1.log" || say_full
     log=$top/crates/$1/out/build.log
-    mkdir -p "${log%/*}" && mv "$rooms/$1.log" "$log"
-    tail -n 20 "$log" >&2
-    ! is_full "$log" || say "the disk is full: give $top some gigabytes, and the same command goes on"
-    say "$1 wasn't built; all of its log is in $log"
+    if mkdir -p "${log%/*}" && mv "$rooms/$1.log" "$log"; then
+        say "$1 wasn't built; all of its log is in $log"
+    else
+        say "$1 wasn't built"
+    fi
     rm -rf "$rooms"
     exit 1
+}
+
+# Ends where a file that the build begins with can't be written.
+end_unwritten() {
+    if is_full /dev/null; then say_full; else say "$top can't be written"; fi
+    exit 1
+}
+
+say_full() {
+    say "the disk is full: a first build takes 9 GB in $top; once there is room, the same command goes on"
+}
+
+# Takes the room of a log before it is written, so that it tells the reason where the disk is full by then.
+write_ahead() {
+    head -c 262144 /dev/zero >"$1"
+}
+
+# Gives back the room that a log didn't need.
+trim_log() {
+    truncate -s "$(tr -d '\000' <"$1" | wc -c)" "$1"
+}
+
+# Says the last lines of a log, also where the last one is cut off.
+say_log() {
+    tail -n 20 "$1" | awk 1 >&2
 }
 
 # Whether a log says that the disk is full, or next to nothing is left.

@@ -7,12 +7,13 @@ build_tried() {
     find_rt
     say "building the program without its proof, in some three minutes"
     log=$folder/out/try.log
-    mkdir -p "$folder/out" && : >"$folder/out/started" && work=$(mktemp -d) && mkfifo "$work/script" || exit 1
+    mkdir -p "$folder/out" && : >"$folder/out/started" && write_ahead "$log" || end_unwritten
+    work=$(mktemp -d) && mkfifo "$work/script" || exit 1
     on_signals stop_try
     held=yes
     copy_tried 2>/dev/null &
     copying=$!
-    make_tried >"$log" 2>&1 </dev/null &
+    make_tried 1<>"$log" 2>&1 </dev/null &
     trying=$!
     held=
     [ -z "$asked" ] || stop_try
@@ -21,9 +22,10 @@ build_tried() {
     kill "$copying" 2>/dev/null
     await "$copying"
     rm -rf "$work"
+    trim_log "$log"
     trap - INT TERM HUP
     if [ "$status" != 3 ] || [ ! -x "$program.$$" ]; then
-        tail -n 20 "$log" >&2
+        say_log "$log"
         ! is_full "$log" || say "the disk is full, here or where temporary files lie"
         say "the program wasn't built; all of the log is in $log"
         exit 1
