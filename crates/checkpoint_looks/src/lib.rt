@@ -10,6 +10,8 @@ mod cases;
 #[cfg(test)]
 mod diagrams;
 #[cfg(test)]
+mod from_root;
+#[cfg(test)]
 mod lives;
 #[cfg(test)]
 mod looked;
@@ -21,7 +23,5 @@ mod noticed;
 mod reduced;
 #[cfg(test)]
 mod shapes;
-#[cfg(test)]
-mod top_down;
 #[cfg(test)]
 mod words;
