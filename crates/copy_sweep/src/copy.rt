@@ -64,6 +64,13 @@ impl<'r> CopySweep<'r> {
         })
     }
 
+    /// The part numbers that weren't taken: those that it began with.
+    pub fn parts(&self) -> Parts
+        ensures { result ≡ self.now.parts }
+    {
+        self.parts
+    }
+
     // Copies the next piece.
     fn copy_one<S: Shelf>(&mut self, shelf: &mut S) -> Result<Turn, SortFault>
         requires ready { IsReady self.old }
