@@ -21,11 +21,12 @@ use Rattle.run_tiers.specs.Syncs.{IsFirm}
 use Rattle.sweep_checkpoint.specs.declared.going.Going.{Going}
 use Rattle.sweep_checkpoint.specs.Going.{first_owed}
 use Rattle.sweep_core.specs.declared.checkpoint.Checkpoint.{Checkpoint}
-use Rattle.sweep_core.specs.Accounts.{CanBeTaken}
+use Rattle.sweep_core.specs.Accounts.{CanBeTaken, NoneFilled}
 use Rattle.sweep_core.specs.Carries.{IsBehindPoints, OnlyCutBehind}
 use Rattle.sweep_core.specs.Saving.{IsOfStep, reads_of}
 use Rattle.sweep_core.specs.Sweeps.{IsNoDamage}
 use Rattle.sweep_core.specs.Tables.{records_named}
+use Rattle.sweep_core.proofs.Untaken.{none_changed}
 use Rattle.step_work.specs.Works.{work_for}
 use Rattle.top_down_sweep.specs.Beginning as top
 use Rattle.top_down_sweep.specs.Beginning.{files_from, after_two}
@@ -64,6 +65,7 @@ use Rattle.step_sweeps.proofs.Faults.{start_fault, turn_fault, never_blamed}
 use Rattle.step_sweeps.proofs.ImpliedWork.{implication_fault, turn_fault_at, within_work}
 use Rattle.step_sweeps.proofs.Rebuilt.{made_sure, sure_still}
 use Rattle.step_sweeps.proofs.Running.{not_of_step, file_stays, one_point, not_spent}
+use Rattle.step_sweeps.proofs.Unfilled.{none_cut}
 
 -- a file of an earlier step isn't behind the step's checkpoints
 earlier_apart : (number : ℕ) (f : FileNo) → f.step < number → ¬ (IsBehindPoints number f)
@@ -275,6 +277,12 @@ module _ {S : Type 0} (tells : S → Bool) (world : S → World) (counts : S →
         images = start_images none (Ok s) starts;
         trusts = λ told_new none. starts.trusts told_new;
         content = content;
+        within = omega (arith, next_is);
+        untaken = λ told_new. none_changed (IsTaken (no_parts number) (after_two (no_parts number))) number
+            (accounts.next s) (world before) (world after) (λ f is free.
+            let below : f.part < 5 = is.below in let from : accounts.next s ≤ f.part = free.from in
+            absurd (omega (arith, below, from, next_is)))
+            (starts.leaves.content.did told_new);
         owed = omega (arith, next_is, taken);
         stock = λ none. stock_is;
         calls = λ told_new. let paid = begun.calls told_new in omega (arith, paid, stock_is);
@@ -476,6 +484,10 @@ module _ {S : Type 0} (tells : S → Bool) (world : S → World) (counts : S →
           images = rebuild_images files ours (Ok s) rebuilds;
           trusts = λ told_new none. absurd (not_none none);
           content = content;
+          within = let most = come_from.2.parts.1 in omega (arith, next_is, most);
+          untaken = λ told_new. subst (λ k. NoneFilled number k (world before) (world after)) (sym next_is)
+              (none_cut c (RestsOn product_words c) number (world before) (world after) come_from.2.step_is
+              come_from.2.parts.0 (rebuilds.content.did told_new));
           owed = subst (λ l. accounts.next s ≤ first_owed l (accounts.next s)) (sym last) (omega (arith, next_is));
           stock = λ none. absurd (not_none none);
           calls = λ told_new.

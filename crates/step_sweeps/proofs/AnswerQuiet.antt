@@ -32,6 +32,7 @@ use Rattle.step_sweeps.specs.Begun.{Begun}
 use Rattle.step_sweeps.specs.Going.{MayGoOn, next_of, rest_calls}
 use Rattle.step_sweeps.specs.Stops.{shown_by, step_stop}
 use Rattle.step_sweeps.proofs.StopsAnew.{held_points}
+use Rattle.step_sweeps.proofs.Unfilled.{none_quiet}
 
 -- no file changes
 abbrev pub Unchanged : World → World → Type 0
@@ -95,6 +96,7 @@ module _ {S Given : Type 0} (tells : S → Bool) (world : S → World) (counts :
         (λ f behind. behind_nodes going.step f behind) r.content;
     counted = tt;
     few_anew = tt;
+    untaken = tt;
     calls = tt;
     grew = tt;
     stops = λ tells_new g asked work.
@@ -231,6 +233,9 @@ module _ {S Given P : Type 0} (tells : S → Bool) (world : S → World) (counts
         images = quiet_images tells world counts q going local before after b.quiet;
         trusts = b.trusts;
         content = quiet_content tells world counts q going local before after b.quiet;
+        within = omega (arith, next);
+        untaken = λ told. none_quiet going.step (kind.accounts.next s) (world before) (world after)
+            (λ f. file_unchanged (world before) (world after) (b.quiet.did told) f);
         owed = omega (arith, next, taken);
         stock = λ none. omega (arith, owed);
         calls = λ told. let few = b.calls told in omega (arith, few, owed);

@@ -25,7 +25,7 @@ use Rattle.sweep_checkpoint.specs.Stops.{AreStops, StopsCost, stop_calls}
 use Rattle.sweep_checkpoint.specs.declared.going.Going.{Going}
 use Rattle.sweep_core.specs.declared.checkpoint.Checkpoint.{Checkpoint}
 use Rattle.sweep_core.specs.declared.sweep.Sweep as sweep
-use Rattle.sweep_core.specs.Accounts.{Accounts}
+use Rattle.sweep_core.specs.Accounts.{Accounts, NoneFilled, StayEmpty}
 use Rattle.sweep_core.specs.Carries.{IsBehindPoints}
 use Rattle.sweep_core.specs.Saving.{IsRestingPlace, reads_of}
 use Rattle.sweep_core.specs.Sweeps.{IsNoDamage}
@@ -42,6 +42,7 @@ use Rattle.step_sweeps.proofs.Running.{file_stays}
 use Rattle.step_sweeps.proofs.StopsAnew.{run_within, held_points, shown_within}
 use Rattle.step_sweeps.proofs.AnswerSums.{calls_of, spent_of, few_anew_of}
 use Rattle.step_sweeps.proofs.StepStands.{gate_sure, points_there, rests_sure}
+use Rattle.step_sweeps.proofs.Unfilled.{none_swept}
 
 -- so many turns and saves were made, and this is what they took, whether the sweep was refused or not
 pub record Took {P : Type 0} (accounts : Accounts P) (going : Going) (turns : ℕ) (old new : World) (s t : P) : Type 0 where
@@ -261,6 +262,7 @@ module _ {S Given P : Type 0} (tells : S → Bool) (world : S → World) (counts
     content = went_content;
     counted = tt;
     few_anew = tt;
+    untaken = tt;
     calls = tt;
     grew = tt;
     stops = λ tells_new g asked. went_stops tells_new g asked;
@@ -276,6 +278,9 @@ module _ {S Given P : Type 0} (tells : S → Bool) (world : S → World) (counts
         → turns ≤ going.turns + kind.left s (world mid) job + 1
     pub cost : turns < 2 ^ 64 - 1 → Cost tells world kind.accounts going turns mid after s t
     pub grew : going.turns ≤ turns
+    pub more : kind.accounts.next s ≤ kind.accounts.next t
+    pub untaken : IsTrue (tells after)
+        → StayEmpty (kind.accounts.makes s) going.step (kind.accounts.next t) (world mid) (world after)
     pub faults : OnlySortShelf {T = Unit} (counts mid) (counts after) (Ok tt)
 
   went_calls : (turns : ℕ) → IsTrue (tells after) → Cost tells world kind.accounts going turns mid after s t
@@ -293,10 +298,10 @@ module _ {S Given P : Type 0} (tells : S → Bool) (world : S → World) (counts
       omega (arith, calls)
 
   pub answered : (a : Answered) → HasEnded a.turns → IsCounted a.turns a.next
-      → a.next ≤ kind.accounts.next t
+      → a.next ≡ kind.accounts.next t
       → (IsTrue (tells after) → (g : Given) → kind.remains t (world after) (job_of g) → a.answer ≡ q.answer g)
       → Answers tells world counts q going before after (Ok a)
-  answered a ended counted within right = record {
+  answered a ended counted next_is right = record {
     answer = λ tells_new g asked.
         let way = on_the_way tells_new g asked in
         let few = ended.few tells_new (job_of g) way.remains in
@@ -311,13 +316,17 @@ module _ {S Given P : Type 0} (tells : S → Bool) (world : S → World) (counts
     images = went_images;
     damaged = tt;
     content = went_content;
+    untaken = λ told. subst (λ k. NoneFilled going.step k (world before) (world after)) (sym next_is)
+        (none_swept (kind.accounts.makes s) (kind.saving.operands (kind.task s)) going.step (kind.accounts.next s)
+        (kind.accounts.next t) (world before) (world mid) (world after) begun.files ended.more
+        (begun.untaken (went.content.before told)) (ended.untaken told));
     counted = counted;
     few_anew = λ none.
         let first : first_owed going.last (kind.accounts.next s) ≡ first_owed None (kind.accounts.next s) =
         ap (λ last. first_owed last (kind.accounts.next s)) none in
         let owed = begun.owed in
         few_anew_of a.turns going.turns a.next (kind.accounts.next s) (kind.accounts.next t) (kind.accounts.stock s)
-        (kind.accounts.stock t) (omega (arith, owed, first)) (begun.stock none) within counted.below (λ below.
+        (kind.accounts.stock t) (omega (arith, owed, first)) (begun.stock none) (omega (arith, next_is)) counted.below (λ below.
         let cost = ended.cost below in
         let saves = few_saves (interval_of going.budget) cost.saves going.shown a.turns begun.paid.interval cost.few in
         (cost.saves, omega (arith, saves), cost.parts.spent));

@@ -17,6 +17,7 @@ use Rattle.step_going.proofs.Shown.{quiet_stops}
 use Rattle.sweep_checkpoint.specs.Stops.{SamePoints}
 use Rattle.sweep_checkpoint.specs.declared.going.Going.{Going}
 use Rattle.sweep_core.specs.declared.checkpoint.Checkpoint.{Checkpoint}
+use Rattle.sweep_core.specs.Accounts.{NoneFilled}
 use Rattle.sweep_core.specs.Carries.{OnlyCutBehind}
 use Rattle.sweep_core.specs.Saving.{IsOfStep, reads_of}
 use Rattle.sweep_core.specs.Sweeps.{IsNoDamage}
@@ -48,6 +49,7 @@ use Rattle.step_sweeps.proofs.Rebuilt.{made_sure, sure_still}
 use Rattle.step_sweeps.proofs.Running.{earlier_stays, stays_step}
 use Rattle.step_sweeps.proofs.Stops.{along_cuts, given_shows}
 use Rattle.step_sweeps.proofs.UnderWay.{IsSafeAt}
+use Rattle.step_sweeps.proofs.Unfilled.{none_cut}
 
 -- the words of a checkpoint are those of one task
 one_task : (c : Checkpoint) (t u : SweepTask) → Names step_words c t → Names step_words c u → t ≡ u
@@ -218,6 +220,10 @@ module _ {S : Type 0} (tells : S → Bool) (world : S → World) (counts : S →
                 );
             images = again_safe;
             content = again_content;
+            within = let most = may.come_to.0.rules.parts.1 in omega (arith, next, most);
+            untaken = λ told. subst (λ k. NoneFilled making.number k (world before) (world mid)) (sym next)
+                (none_cut c (RestsOn step_words c) making.number (world before) (world mid) step_is
+                may.come_to.0.rules.parts.0 (content.did told));
             owed = omega (arith, next);
             stock = omega (arith, stock);
             calls = λ told.
@@ -252,6 +258,7 @@ module _ {S : Type 0} (tells : S → Bool) (world : S → World) (counts : S →
       grew = tt;
       paid = tt;
       taken = tt;
+      untaken = tt;
       recent = tt;
       calls = tt;
       few_calls = λ told g given.
@@ -294,6 +301,7 @@ module _ {S : Type 0} (tells : S → Bool) (world : S → World) (counts : S →
     grew = tt;
     paid = tt;
     taken = tt;
+    untaken = tt;
     recent = tt;
     calls = tt;
     few_calls = λ told g given. absurd (not_given g given);

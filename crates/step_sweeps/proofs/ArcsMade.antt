@@ -18,6 +18,7 @@ use Rattle.step_going.proofs.Shown.{standing_shows}
 use Rattle.sweep_checkpoint.specs.Going.{IsPaidTo, AreSure, Stands, TakesParts, TakesCalls, SameShown, IsShown, interval_of, first_owed}
 use Rattle.sweep_checkpoint.specs.declared.going.Going.{Going}
 use Rattle.sweep_core.specs.declared.checkpoint.Checkpoint.{Checkpoint}
+use Rattle.sweep_core.specs.Accounts.{NoneFilled, StayEmpty}
 use Rattle.sweep_core.specs.Carries.{OnlySaved}
 use Rattle.sweep_core.specs.Saving.{reads_of}
 use Rattle.sweep_core.specs.Sweeps.{IsNoDamage}
@@ -59,6 +60,7 @@ use Rattle.step_sweeps.proofs.Faults.{turn_fault, no_damage}
 use Rattle.step_sweeps.proofs.Running.{not_of_step, earlier_stays, faults_ok}
 use Rattle.step_sweeps.proofs.Stops.{begun_shows, come_turns, none_stands, said_of}
 use Rattle.step_sweeps.proofs.UnderWay.{way_sure, way_stands}
+use Rattle.step_sweeps.proofs.Unfilled.{none_swept}
 
 -- what a run to the end leaves
 pub record HasEnded {S : Type 0} (tells : S → Bool) (world : S → World) (going later : Going)
@@ -95,6 +97,8 @@ pub record HasEnded {S : Type 0} (tells : S → Bool) (world : S → World) (goi
   pub covers : OnOk result (IsTrue (tells after) → IsCovered going.step (world mid)
       → IsCovered going.step (world after))
   pub recent : OnOk result (later.turns < 2 ^ 61 → later.turns - later.shown ≤ interval_of going.budget)
+  pub untaken : OnOk result (IsTrue (tells after) → StayEmpty (arcs_kind.accounts.makes s) going.step
+      (arcs_kind.accounts.next t) (world mid) (world after))
   pub shown : OnOk result (IsTrue (tells after) →
       SameShown going later (now (world mid)).folder (now (world after)).folder
       ⊎ IsShown going.step later (now (world after)).folder)
@@ -152,6 +156,7 @@ module _ {S : Type 0} (tells : S → Bool) (world : S → World) (counts : S →
     grew = tt;
     paid = tt;
     taken = tt;
+    untaken = tt;
     recent = tt;
     calls = tt;
     few_calls = λ told g given.
@@ -313,6 +318,12 @@ module _ {S : Type 0} (tells : S → Bool) (world : S → World) (counts : S →
           );
       content = run_content tells world counts making going may before mid after early s t started task files_at later
           (Ok tt) run;
+      untaken = λ told. subst (λ k. NoneFilled making.number k (world before) (world after)) (sym next_is)
+          (none_swept (arcs_kind.accounts.makes s) (arcs_kind.saving.operands (arcs_kind.task s)) making.number
+          (arcs_kind.accounts.next s) (arcs_kind.accounts.next t) (world before) (world mid) (world after)
+          started.may.files ended.next (started.untaken (run.changes.before told))
+          (subst (λ k. StayEmpty (arcs_kind.accounts.makes s) k (arcs_kind.accounts.next t) (world mid) (world after))
+          may.step_is (ended.untaken told)));
       grew = ended.grew.0;
       paid =
           let same = next_is in

@@ -23,6 +23,7 @@ use Rattle.sweep_checkpoint.specs.declared.going.Going.{Going}
 use Rattle.sweep_checkpoint.specs.Stops.{SamePoints, StopsCost}
 use Rattle.sweep_core.specs.declared.checkpoint.Checkpoint.{Checkpoint}
 use Rattle.sweep_core.specs.Sweeps.{IsNoDamage}
+use Rattle.sweep_core.proofs.Untaken.{none_then}
 use Rattle.resumable.specs.Diagrams.{diagram_rests}
 use Rattle.resumable.proofs.DiagramPoints.{diagram_local}
 use Rattle.arc_file.specs.declared.unreduced.Unreduced.{Unreduced}
@@ -42,6 +43,7 @@ use Rattle.step_sweeps.specs.Stops.{shown_by, sweep_stop, reduce_stop}
 use Rattle.step_sweeps.specs.Sweeping.{HasArcsOf, AreReducible, MayReduce, Reduces, Takes, IsCovered, calls_of}
 use Rattle.step_sweeps.proofs.Running.{ok_more, ok_both, err_more, gate_apart, points_apart}
 use Rattle.step_sweeps.proofs.StopsAnew.{held_points}
+use Rattle.step_sweeps.proofs.Unfilled.{none_by_nodes}
 
 -- files of a step that aren't its node file: the two of arcs, its checkpoints and their gate
 inner_apart : (number : ℕ) (arcs : Unreduced) → HasArcFiles number arcs → ¬ (arcs.inner ≡ node_file number)
@@ -193,6 +195,7 @@ module _ {S : Type 0} (tells : S → Bool) (world : S → World) (counts : S →
     content = reduces.content;
     counted = reduces.counted;
     taken = reduces.taken;
+    untaken = reduces.untaken;
     calls = reduces.calls;
     few_calls = λ told g are.
         let less = fewer g (world old) are in
@@ -259,6 +262,7 @@ module _ {S : Type 0} (tells : S → Bool) (world : S → World) (counts : S →
       content = node_changes (2 * arcs + 8) old new content;
       counted = tt;
       taken = tt;
+      untaken = tt;
       calls = tt;
       few_calls = λ told g are. calls_alone old new are.has.sources are.has.has_sources (content.did told);
       stops = λ told g are within less. room_stops old new g are.has (content.did told);
@@ -300,6 +304,11 @@ module _ {S : Type 0} (tells : S → Bool) (world : S → World) (counts : S →
             },
           );
           taken = λ before. omega (arith, before, shown, next_is, turns_are, fits);
+          untaken = (
+            omega (arith, next_is),
+            λ told. none_by_nodes making.number d.next (world old) (world new) (omega (arith, past, next_is))
+                (content.did told).run,
+          );
           calls = λ exact. (
             record { saves = 0; parts = 0; few_saves = omega arith; few_parts = omega arith },
             λ told. let calls = (content.did told).few in omega (arith, calls, is, turns_are, exact),
@@ -355,6 +364,12 @@ module _ {S : Type 0} (tells : S → Bool) (world : S → World) (counts : S →
               let more = counted.0 in
               (omega (arith, more, is, fits), counted.1)) reduces.counted;
           taken = ok_more r _ _ (λ d few before. few (omega (arith, before, is, fits))) reduces.taken;
+          untaken = ok_more r _ _ (λ d its. (
+            its.0,
+            λ told. none_then making.number m.parts.next d.next (world old) (world mid) (world new) its.0
+                (none_by_nodes making.number m.parts.next (world old) (world mid)
+                (let past = may.past in omega (arith, past)) (only told).run) (its.1 told),
+          )) reduces.untaken;
           calls = ok_both r _ _ _ (λ d counted calls exact.
               let more = counted.0 in
               let its = calls exact in

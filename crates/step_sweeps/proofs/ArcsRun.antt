@@ -266,6 +266,7 @@ module _ {S : Type 0} (tells : S → Bool) (world : S → World) (counts : S →
     grew = tt;
     paid = tt;
     taken = tt;
+    untaken = tt;
     recent = tt;
     calls = tt;
     few_calls = λ told g given.

@@ -20,6 +20,7 @@ use Rattle.step_going.proofs.Shown.{quiet_stops}
 use Rattle.sweep_checkpoint.specs.declared.going.Going.{Going}
 use Rattle.sweep_checkpoint.specs.Stops.{SamePoints}
 use Rattle.sweep_core.specs.Saving.{IsOfStep, IsMadePart}
+use Rattle.sweep_core.proofs.Untaken.{none_changed}
 use Rattle.top_down_sweep.specs.declared.beginning.OperandFiles.{OperandFiles}
 use Rattle.top_down_sweep.specs.declared.start.Files.{Files}
 use Rattle.top_down_sweep.specs.declared.steps.StepOperation.{StepOperation}
@@ -200,6 +201,11 @@ module _ {S : Type 0} (tells : S → Bool) (world : S → World) (counts : S →
             );
         images = start_safe started.leaves.content;
         content = start_content started.leaves.content;
+        within = omega (arith, next);
+        untaken = λ told. none_changed taken making.number (sweep_of s).machine.parts.next (world before) (world mid)
+            (λ f is free. let below : f.part < 5 = is.below in
+            let from : (sweep_of s).machine.parts.next ≤ f.part = free.from in absurd (omega (arith, below, from, next)))
+            (started.leaves.content.did told);
         owed = omega (arith, next);
         stock = omega (arith, stock);
         calls = λ told. let calls = begun.calls told in omega (arith, calls);
@@ -227,6 +233,7 @@ module _ {S : Type 0} (tells : S → Bool) (world : S → World) (counts : S →
     grew = tt;
     paid = tt;
     taken = tt;
+    untaken = tt;
     recent = tt;
     calls = tt;
     few_calls = λ told g given.

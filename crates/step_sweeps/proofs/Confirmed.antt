@@ -191,6 +191,7 @@ module _ {S : Type 0} (tells : S → Bool) (world : S → World) (counts : S →
           grew = tt;
           paid = tt;
           taken = tt;
+          untaken = tt;
           recent = tt;
           calls = tt;
           few_calls = λ told g given. absurd (never told g given);
@@ -219,6 +220,7 @@ arcs_handed tells world counts making old new before mid fault other first = rec
   grew = tt;
   paid = tt;
   taken = tt;
+  untaken = tt;
   recent = tt;
   calls = tt;
   few_calls = first.few_calls;
@@ -278,6 +280,7 @@ module _ {S : Type 0} (tells : S → Bool) (world : S → World) (counts : S →
             (λ m stays f outside. ap (λ (d : Folder). file_in d f) stays) ran));
         counted = tt;
         few_anew = tt;
+        untaken = tt;
         calls = tt;
         grew = tt;
         stops = λ told g asked. absurd (never told g asked);
@@ -305,6 +308,7 @@ module _ {S : Type 0} (tells : S → Bool) (world : S → World) (counts : S →
         content = first.content;
         counted = first.counted;
         few_anew = first.few_anew;
+        untaken = first.untaken;
         calls = first.calls;
         grew = first.grew;
         stops = λ told g asked. first.stops told g (asks g asked);

@@ -1,7 +1,8 @@
 -- A copy that goes on from a step's last checkpoint: what it makes and takes, whether a turn was refused, the file that
 -- it made couldn't be measured, or it ended.
 use Rattle.std.proofs.Common.{◌≡◌, ◌∙◌, ℕ, ◌+◌, ◌-◌, ◌*◌, ◌/◌, ◌^◌, ◌<◌, ◌≤◌, Bool, IsTrue, List, take, length, ap, sym, subst, inl, inr, mul-le-mul_right, arith}
-use Rattle.std.specs.Prelude.{Result, Ok, Err, IsErrOf}
+use Rattle.std.specs.Prelude.{min, Result, Ok, Err, IsErrOf}
+use Rattle.std.proofs.lemmas.Bool.{cases_lt}
 use Rattle.std.proofs.lemmas.List.{take_all}
 use Rattle.shelf_model.specs.declared.file_no.FileNo.{FileNo}
 use Rattle.shelf_model.specs.declared.fault.Failed.{Failed}
@@ -27,9 +28,10 @@ use Rattle.run_tiers.specs.Faults.{OnlySortShelf}
 use Rattle.step_going.specs.Standing.{AreSafe}
 use Rattle.step_going.proofs.GoneOn.{GoesOnBy}
 use Rattle.step_going.proofs.Shown.{stops_more}
-use Rattle.sweep_checkpoint.specs.Going.{GoesOn, IsOfGoing, TakesParts, TakesCalls, interval_of, first_owed}
+use Rattle.sweep_checkpoint.specs.Going.{GoesOn, IsOfGoing, TakesParts, TakesCalls, IsPaidTo, interval_of, first_owed}
 use Rattle.sweep_checkpoint.specs.declared.going.Going.{Going}
 use Rattle.sweep_checkpoint.specs.Stops.{StopsCost}
+use Rattle.sweep_core.specs.Accounts.{NoneFilled, StayEmpty}
 use Rattle.sweep_core.specs.Saving.{reads_of}
 use Rattle.sweep_core.specs.Sweeps.{IsNoDamage}
 use Rattle.resumable.specs.Diagrams.{copy_of, diagram_rests}
@@ -39,7 +41,7 @@ use Rattle.step_sweeps.specs.declared.diagram.MadeDiagram.{MadeDiagram}
 use Rattle.step_sweeps.specs.declared.task.Making.{Making}
 use Rattle.step_sweeps.specs.Copied.{CopiesTo}
 use Rattle.step_sweeps.specs.Given.{Tables}
-use Rattle.step_sweeps.specs.Going.{next_of, rest_calls}
+use Rattle.step_sweeps.specs.Going.{rest_calls}
 use Rattle.step_sweeps.specs.Kinds.{copy_kind}
 use Rattle.step_sweeps.specs.Made.{node_file, OnlyStep}
 use Rattle.step_sweeps.specs.Makes.{IsGivenFor, goes_on_by, table_by, work_for, operand_nodes}
@@ -49,6 +51,7 @@ use Rattle.step_sweeps.specs.Sweeping.{MayResume, Sweeps, IsCovered, IsOperand, 
 use Rattle.step_sweeps.proofs.CopyRuns.{RanCopy}
 use Rattle.step_sweeps.proofs.Stops.{resumed_shown, started_stops, stops_call}
 use Rattle.step_sweeps.proofs.UnderWay.{way_sure, way_covered, way_safe}
+use Rattle.step_sweeps.proofs.Unfilled.{none_swept}
 
 -- the calls of a copy that goes on, of which so many turns were made or were left, behind what going on costs
 calls_on : (more interval saves next later from rest old mid new : ℕ) → 16384 ≤ interval → interval * saves ≤ more
@@ -230,6 +233,7 @@ module _ {S : Type 0} (tells : S → Bool) (world : S → World) (counts : S →
     content = on_content;
     counted = tt;
     few_anew = tt;
+    untaken = tt;
     calls = tt;
     faults = faults;
   }
@@ -289,13 +293,17 @@ module _ {S : Type 0} (tells : S → Bool) (world : S → World) (counts : S →
       content = end_content;
       counted = tt;
       few_anew = tt;
+      untaken = tt;
       calls = tt;
       faults = faults;
     }
 
     -- or it has the bytes of the diagram
     pub on_ended : (later : Going) (d : MadeDiagram) (size : ℕ) → d.nodes ≡ size / 24 - 1 → d.turns ≡ later.turns
-        → d.next ≡ next_of going.last
+        → d.next ≡ min t.parts.next (2 ^ 32) → s.parts.next ≤ t.parts.next
+        → (s.parts.next ≤ 2 ^ 32 → t.parts.next ≤ 2 ^ 32)
+        → (IsTrue (tells new) → StayEmpty (accounts.makes s) going.step t.parts.next (world mid) (world new))
+        → (later.turns < 2 ^ 64 - 1 → IsPaidTo accounts going s → IsPaidTo accounts later t)
         → (IsTrue (tells end) → size ≡ length (file (world new) to).bytes)
         → (going.turns ≤ later.turns) × (0 < later.turns)
         → (going.shown ≤ going.turns → later.shown ≤ later.turns)
@@ -310,81 +318,93 @@ module _ {S : Type 0} (tells : S → Bool) (world : S → World) (counts : S →
         → t.task ≡ s.task → fuel_of t ≡ 0 → (IsTrue (tells new) → IsInStep t (world new))
         → OnlySortShelf {T = MadeDiagram} (counts old) (counts end) (Ok d)
         → Sweeps tells world counts making going old end (Ok d)
-    on_ended later d size nodes turns_are next_is size_is grew late counted few keeps same none step faults = record {
-      made = λ told_end g given.
-          let told = look.before told_end in
-          let left = few_left told g given in
-          let turns = few told (job told g given) (way told g given).remains in
-          let all = most_is g in
-          let whole = on_all told g given same none (step told)
-          (keeps told (job told g given) (way told g given).remains) in
-          let measured : size ≡ length (bytes told g given) =
-          size_is told_end ∙ ap (λ f. length (file (world new) f).bytes) to_same
-          ∙ ap (λ (x : File). length x.bytes) whole in
-          let long : length (bytes told g given) ≡ (length (canon_nodes making.n (table_by making g)) + 1) * 24 =
-          long_canonical making.n (table_by making g) in (
-            record {
-              form = (does told g given).form;
-              file_is = ap (λ (x : Moment). file_in x.folder (node_file making.number)) (look.did told_end).same
-                  ∙ whole;
-              nodes_are = omega (arith, nodes, measured, long);
-            },
-            omega (arith, left, turns, all, turns_are),
-          );
-      undamaged = tt;
-      spent = λ was. absurd (cc);
-      few_calls = end_few;
-      images = end_images;
-      stops = end_stops;
-      damaged = tt;
-      content = end_content;
-      counted =
-          let more = grew.0 in
-          let some = grew.1 in
-          let next : d.next ≡ may.point.next_part = next_is ∙ ap next_of may.at_point.last_is in
-          let parts = may.at_point.rules.parts in
-          let from = parts.0 in
-          let below = parts.1 in
-          let paid = may.at_point.paid in
-          let shows = may.at_point.turns_are in (
-            omega (arith, more, turns_are),
-            record {
-              some = omega (arith, some, turns_are);
-              from = omega (arith, next, from);
-              below = omega (arith, next, below);
-              few = omega (arith, next, paid, shows, more, turns_are);
-            },
-          );
-      few_anew = λ anew. absurd (let last_is = may.at_point.last_is in cc);
-      calls = λ told_end exact.
-          let told = look.before told_end in
-          let once = (look.did told_end).shelf.ticks.clock_is in
-          let its = counted (omega (arith, exact, turns_are)) in
-          let few_saves = its.1 in
-          let parts = its.2.spent in
-          let spends = (its.3 told).paid in
-          let shows = late starts.may.paid.shown in
-          let shown_is = may.shown_is in
-          let owed = owed_is in
-          let first_owed_is = starts.owed in
-          let begun = starts.calls (run.changes.before told) in
-          let long = starts.may.paid.interval in
-          let more = grew.0 in
-          let less : 16384 * its.0 ≤ interval_of going.budget * its.0 = mul-le-mul_right its.0 long in
-          omega (
-            arith,
-            once,
-            few_saves,
-            parts,
-            spends,
-            shows,
-            shown_is,
-            owed,
-            first_owed_is,
-            begun,
-            more,
-            less,
-            turns_are,
-          );
-      faults = faults;
-    }
+    on_ended later d size nodes turns_are next_is next_more within stay paid size_is grew late counted few keeps same none
+        step faults = record {
+          made = λ told_end g given.
+              let told = look.before told_end in
+              let left = few_left told g given in
+              let turns = few told (job told g given) (way told g given).remains in
+              let all = most_is g in
+              let whole = on_all told g given same none (step told)
+              (keeps told (job told g given) (way told g given).remains) in
+              let measured : size ≡ length (bytes told g given) =
+              size_is told_end ∙ ap (λ f. length (file (world new) f).bytes) to_same
+              ∙ ap (λ (x : File). length x.bytes) whole in
+              let long : length (bytes told g given) ≡ (length (canon_nodes making.n (table_by making g)) + 1) * 24 =
+              long_canonical making.n (table_by making g) in (
+                record {
+                  form = (does told g given).form;
+                  file_is = ap (λ (x : Moment). file_in x.folder (node_file making.number)) (look.did told_end).same
+                      ∙ whole;
+                  nodes_are = omega (arith, nodes, measured, long);
+                },
+                omega (arith, left, turns, all, turns_are),
+              );
+          undamaged = tt;
+          spent = λ was. absurd (cc);
+          few_calls = end_few;
+          images = end_images;
+          stops = end_stops;
+          damaged = tt;
+          content = end_content;
+          counted =
+              let more = grew.0 in
+              let some = grew.1 in
+              let from = starts.may.files.parts in (
+                omega (arith, more, turns_are),
+                record {
+                  some = omega (arith, some, turns_are);
+                  from = omega (arith, next_is, next_more, from);
+                  below = omega (arith, next_is);
+                  few = elim (cases_lt later.turns (2 ^ 64 - 1)) [
+                    | inl exact ↦ (let sum = (paid exact starts.may.paid).paid in
+                        let shows = late starts.may.paid.shown in
+                        omega (arith, sum, shows, turns_are, next_is))
+                    | inr above ↦ omega (arith, above, turns_are, next_is)
+                  ];
+                },
+              );
+          few_anew = λ anew. absurd (let last_is = may.at_point.last_is in cc);
+          untaken =
+              let most = within starts.within in
+              let last : t.parts.next ≡ d.next = omega (arith, next_is, most) in
+              λ told_end f free empty.
+              let told = look.before told_end in
+              let none : NoneFilled making.number d.next (world old) (world new) =
+              subst (λ k. NoneFilled making.number k (world old) (world new)) last
+              (none_swept (accounts.makes s) (λ q. q ≡ s.task.from) making.number s.parts.next t.parts.next (world old)
+              (world mid) (world new) starts.may.files next_more (starts.untaken (run.changes.before told))
+              (subst (λ k. StayEmpty (accounts.makes s) k t.parts.next (world mid) (world new)) may.step_is (stay told))) in
+              ap (λ (x : Moment). (file_in x.folder f).bytes) (look.did told_end).same ∙ none f free empty;
+          calls = λ told_end exact.
+              let told = look.before told_end in
+              let once = (look.did told_end).shelf.ticks.clock_is in
+              let its = counted (omega (arith, exact, turns_are)) in
+              let few_saves = its.1 in
+              let parts = its.2.spent in
+              let spends = (its.3 told).paid in
+              let shows = late starts.may.paid.shown in
+              let shown_is = may.shown_is in
+              let owed = owed_is in
+              let first_owed_is = starts.owed in
+              let begun = starts.calls (run.changes.before told) in
+              let long = starts.may.paid.interval in
+              let more = grew.0 in
+              let less : 16384 * its.0 ≤ interval_of going.budget * its.0 = mul-le-mul_right its.0 long in
+              omega (
+                arith,
+                once,
+                few_saves,
+                parts,
+                spends,
+                shows,
+                shown_is,
+                owed,
+                first_owed_is,
+                begun,
+                more,
+                less,
+                turns_are,
+              );
+          faults = faults;
+        }

@@ -1,7 +1,8 @@
 -- A step's node file that is copied in turns from its beginning on: what is made and taken, whether a turn was refused
 -- or the copy ended.
 use Rattle.std.proofs.Common.{◌≡◌, ◌⊎◌, ◌∙◌, ℕ, ◌+◌, ◌-◌, ◌*◌, ◌/◌, ◌^◌, ◌<◌, ◌≤◌, Bool, IsTrue, List, take, refl, ap, sym, subst, inl, inr, mul-le-mul_right, arith}
-use Rattle.std.specs.Prelude.{max, length, None, Result, Ok, Err, IsErrOf, IsErrAnd}
+use Rattle.std.specs.Prelude.{min, max, length, None, Result, Ok, Err, IsErrOf, IsErrAnd}
+use Rattle.std.proofs.lemmas.Bool.{cases_lt}
 use Rattle.std.proofs.lemmas.List.{take_all}
 use Rattle.rec_words.specs.Words.{node_size}
 use Rattle.shelf_model.specs.declared.file_no.FileNo.{FileNo}
@@ -39,6 +40,7 @@ use Rattle.sweep_checkpoint.specs.Saves.{IsGateSure}
 use Rattle.sweep_checkpoint.specs.Stops.{AreStops, StopsCost, stop_calls}
 use Rattle.sweep_checkpoint.specs.declared.going.Going.{Going}
 use Rattle.step_going.proofs.Shown.{none_shows, stops_more, stops_join, saved_stops}
+use Rattle.sweep_core.specs.Accounts.{NoneFilled, StayEmpty}
 use Rattle.sweep_core.specs.Sweeps.{IsNoDamage}
 use Rattle.resumable.specs.Diagrams.{copy_of, diagram_rests}
 use Rattle.resumable.proofs.Makings.{copy_goes}
@@ -55,10 +57,12 @@ use Rattle.step_sweeps.specs.Started.{IsUnderWay}
 use Rattle.step_sweeps.specs.Sweeping.{IsCovered, IsOperand}
 use Rattle.step_sweeps.specs.Stops.{sweeps_stop}
 use Rattle.step_sweeps.specs.Ways.{IsAnew, IsGivenAnew, MakesAnew}
+use Rattle.step_sweeps.proofs.Costs.{few_saves}
 use Rattle.step_sweeps.proofs.Faults.{no_damage}
 use Rattle.step_sweeps.proofs.StopsAnew.{interval_few, stops_anew}
 use Rattle.step_sweeps.proofs.UnderWay.{way_sure, way_safe}
 use Rattle.step_sweeps.proofs.Running.{file_stays, nodes_apart}
+use Rattle.step_sweeps.proofs.Unfilled.{none_on_nodes}
 use Rattle.step_sweeps.proofs.WaysAnew.{node_changes, safe_anew}
 
 -- the file is that of a step before
@@ -390,6 +394,7 @@ module _ {S : Type 0} (tells : S → Bool) (world : S → World) (counts : S →
     content = copy_content;
     counted = tt;
     few_anew = tt;
+    untaken = tt;
     calls = tt;
     stops = copy_stops;
     faults = faults;
@@ -400,7 +405,10 @@ module _ {S : Type 0} (tells : S → Bool) (world : S → World) (counts : S →
 
   -- or all was copied
   pub copy_ended : (later : Going) (m : MadeDiagram) → m.nodes ≡ source.trailer.count → m.turns ≡ later.turns
-      → m.next ≡ 3 → 0 < later.turns → (going.shown ≤ going.turns → later.shown ≤ later.turns)
+      → m.next ≡ min t.parts.next (2 ^ 32) → s.parts.next ≤ t.parts.next
+      → (s.parts.next ≤ 2 ^ 32 → t.parts.next ≤ 2 ^ 32)
+      → (IsTrue (tells new) → StayEmpty (accounts.makes s) going.step t.parts.next (world mid) (world new))
+      → 0 < later.turns → (going.shown ≤ going.turns → later.shown ≤ later.turns)
       → (later.turns < 2 ^ 64 - 1 → (saves : ℕ)
       × (interval_of going.budget * saves + going.shown ≤ later.shown)
       × TakesParts accounts (later.turns - going.turns) saves s t
@@ -412,7 +420,7 @@ module _ {S : Type 0} (tells : S → Bool) (world : S → World) (counts : S →
       → t.task ≡ s.task → fuel_of t ≡ 0 → (IsTrue (tells new) → IsInStep t (world new))
       → OnlySortShelf {T = MadeDiagram} (counts old) (counts new) (Ok m)
       → MakesAnew tells world counts making 0 (λ g. 0) 7 copy_stop old new (Ok m)
-  copy_ended later m nodes turns_are next made late counted few keeps same none step faults = record {
+  copy_ended later m nodes turns_are next more within_end stay made late counted few keeps same none step faults = record {
     made = λ told g given.
         let its = few told (canon_bytes making.n (table_by making g)) (copies_table told g given) in
         let all = within told g given in
@@ -432,12 +440,20 @@ module _ {S : Type 0} (tells : S → Bool) (world : S → World) (counts : S →
       omega arith,
       record {
         some = omega (arith, made, turns_are);
-        from = omega (arith, next);
+        from = (let first = next_is in omega (arith, next, more, first));
         below = omega (arith, next);
-        few = omega (arith, next);
+        few = (let few = few_next in omega (arith, few));
       },
     );
-    few_anew = omega (arith, next);
+    few_anew = few_next;
+    untaken =
+        let first = next_is in
+        let most = within_end (omega (arith, first)) in
+        let last : t.parts.next ≡ m.next = omega (arith, next, most) in
+        λ told. subst (λ k. NoneFilled making.number k (world old) (world new)) last
+        (none_on_nodes (accounts.makes s) making.number s.parts.next t.parts.next (world old) (world mid) (world new)
+        (omega (arith, first)) more (λ f mine. mine ∙ to_is) (nodes_alone.did (told_mid told))
+        (subst (λ k. StayEmpty (accounts.makes s) k t.parts.next (world mid) (world new)) anew.step_is (stay told)));
     calls = λ told below.
         let its = counted (omega (arith, below, turns_are)) in
         let saves = its.1 in
@@ -454,3 +470,16 @@ module _ {S : Type 0} (tells : S → Bool) (world : S → World) (counts : S →
     stops = copy_stops;
     faults = faults;
   }
+    where
+      -- few parts can have been taken for so many turns
+      few_next : m.next ≤ 5 + m.turns / 16
+      few_next = elim (cases_lt later.turns (2 ^ 64 - 1)) [
+        | inl exact ↦
+            let its = counted exact in
+            let shown = few_saves (interval_of going.budget) its.0 going.shown later.shown long its.1 in
+            let shows = late paid_so.shown in
+            let parts = its.2.spent in
+            let first = next_is in
+            omega (arith, shown, shows, parts, first, next, turns_are)
+        | inr above ↦ omega (arith, above, turns_are, next)
+      ]

@@ -21,6 +21,7 @@ use Rattle.step_going.proofs.Shown.{none_shows, stops_join}
 use Rattle.sweep_checkpoint.specs.Stops.{StopsCost}
 use Rattle.sweep_checkpoint.specs.declared.going.Going.{Going}
 use Rattle.sweep_core.specs.Sweeps.{IsNoDamage}
+use Rattle.sweep_core.proofs.Untaken.{none_then}
 use Rattle.node_file.specs.Canonical.{IsMade}
 use Rattle.node_file.specs.Changes.{Changed}
 use Rattle.copied_diagrams.specs.declared.pair.Pair.{Pair}
@@ -42,6 +43,7 @@ use Rattle.step_sweeps.proofs.EndedKept.{never_spent, no_damage_of, faults_on, k
 use Rattle.step_sweeps.proofs.Faults.{no_damage}
 use Rattle.step_sweeps.proofs.JoinsAnew.{joined_makes, nodes_are}
 use Rattle.step_sweeps.proofs.StopsAnew.{kept_stops}
+use Rattle.step_sweeps.proofs.Unfilled.{none_by_points}
 use Rattle.step_sweeps.proofs.Running.{faults_ok, file_stays, folder_ok, gate_apart}
 
 -- a diagram was joined, where so many turns were made before; and then it was saved, or wasn't
@@ -152,6 +154,7 @@ module _ {S : Type 0} (tells : S → Bool) (world : S → World) (counts : S →
         content = both_change (Err e) keeps;
         counted = tt;
         few_anew = tt;
+        untaken = tt;
         calls = tt;
         stops = both_stops (Err e) keeps;
         faults = sort_shelf_then _ _ _ (Ok tt) (Err x) calm (faults_on (counts mid) (counts new) e x at keeps.faults);
@@ -177,6 +180,9 @@ module _ {S : Type 0} (tells : S → Bool) (world : S → World) (counts : S →
     content = both_change (Ok tt) keeps;
     counted = was_joined.counted;
     few_anew = was_joined.few_anew;
+    untaken = λ told_new. none_then making.number 3 3 (world old) (world mid) (world new) (omega arith)
+        (was_joined.untaken (keeps.content.before told_new))
+        (none_by_points making.number 3 (world mid) (world new) (omega arith) (keeps.content.did told_new));
     calls = λ told_new below.
         let calls = paid (keeps.content.before told_new) in
         let more = keeps.calls told_new in

@@ -34,6 +34,7 @@ use Rattle.step_sweeps.specs.Operations.{IsWithin}
 use Rattle.step_sweeps.specs.Pairs.{IsPairOf, Leads}
 use Rattle.step_sweeps.specs.Stops.{sweeps_stop}
 use Rattle.step_sweeps.proofs.StopsAnew.{stops_anew}
+use Rattle.step_sweeps.proofs.Unfilled.{none_by_nodes}
 use Rattle.step_sweeps.proofs.WaysAnew.{Pays, changed_run, node_changes, safe_anew}
 
 -- a file that is canonical after a look was so before
@@ -222,6 +223,8 @@ module _ {S : Type 0} (tells : S → Bool) (world : S → World) (counts : S →
           },
         );
         few_anew = omega (arith, next);
+        untaken = λ told. none_by_nodes making.number m.next (world old) (world new) (omega (arith, next))
+            (run.did told);
         calls = λ told below. let calls = paid told in omega (arith, calls, turns, below);
         stops = λ told g given work. stops_anew making.number ((world old).clock + (sweeps_stop + 2 ^ 18 + 6)) (world old)
             (world new) given.none (run.did told) (let calls = short told in omega (arith, calls));

@@ -10,6 +10,7 @@ mod AnswerFronts
 mod AnswerImplying
 mod ImpliedWork
 mod Running
+mod Unfilled
 mod StopsAnew
 mod Faults
 mod Confirmed

@@ -110,6 +110,7 @@ module _ {S : Type 0} (tells : S → Bool) (world : S → World) (counts : S →
     content = makes.content;
     counted = ok_more r _ _ (λ m is. is.1) makes.counted;
     few_anew = ok_more r _ _ (λ m few anew. few) makes.few_anew;
+    untaken = makes.untaken;
     calls = ok_more r _ _ (λ m calls told below.
         let first = calls told below in
         omega (arith, first, turns)) makes.calls;
@@ -146,6 +147,7 @@ module _ {S : Type 0} (tells : S → Bool) (world : S → World) (counts : S →
     content = sweeps.content;
     counted = ok_more r _ _ (λ m counted. counted.1) sweeps.counted;
     few_anew = sweeps.few_anew;
+    untaken = sweeps.untaken;
     calls = ok_both r _ _ _ (λ m counted calls told below.
         let more = counted.0 in
         let first = calls told below in

@@ -19,6 +19,7 @@ use Rattle.step_going.proofs.Shown.{stops_more}
 use Rattle.sweep_checkpoint.specs.Going.{IsOfGoing, IsAsBefore, GoesOn, AreSure, TakesParts, TakesCalls, IsPaidTo, interval_of, first_owed}
 use Rattle.sweep_checkpoint.specs.declared.going.Going.{Going}
 use Rattle.sweep_checkpoint.specs.Stops.{StopsCost}
+use Rattle.sweep_core.specs.Accounts.{NoneFilled, StayEmpty}
 use Rattle.sweep_core.specs.Saving.{reads_of}
 use Rattle.sweep_core.specs.Sweeps.{IsNoDamage}
 use Rattle.resumable.specs.Diagrams.{diagram_rests}
@@ -45,6 +46,7 @@ use Rattle.step_sweeps.specs.Sweeping.{MayResume, Sweeps, IsCovered, most_turns,
 use Rattle.step_sweeps.proofs.SweptReduction.{reduced_at_end}
 use Rattle.step_sweeps.proofs.Stops.{RunStops, resumed_shown, started_stops}
 use Rattle.step_sweeps.proofs.UnderWay.{way_sure, way_covered, way_safe}
+use Rattle.step_sweeps.proofs.Unfilled.{none_swept}
 
 -- the calls of a sweep that goes on, of which so many turns were made or were left, behind what going on costs
 calls_on : (more interval saves next later from stock later_stock credit later_credit rest old mid new : ℕ)
@@ -198,6 +200,7 @@ module _ {S : Type 0} (tells : S → Bool) (world : S → World) (counts : S →
     content = on_content;
     counted = tt;
     few_anew = tt;
+    untaken = tt;
     calls = tt;
     faults = faults;
   }
@@ -206,6 +209,8 @@ module _ {S : Type 0} (tells : S → Bool) (world : S → World) (counts : S →
   pub on_ended : (later : Going) (d : MadeDiagram) → going.turns < 2 ^ 64 → d.turns ≡ later.turns
       → d.next ≡ min t.parts.next (2 ^ 32) → min (going.turns + 1) (2 ^ 64 - 1) ≤ later.turns
       → (going.shown ≤ going.turns → later.shown ≤ later.turns) → s.parts.next ≤ t.parts.next
+      → (s.parts.next ≤ 2 ^ 32 → t.parts.next ≤ 2 ^ 32)
+      → (IsTrue (tells new) → StayEmpty (reduce.accounts.makes s) going.step t.parts.next (world mid) (world new))
       → (later.turns < 2 ^ 64 - 1 → IsPaidTo reduce.accounts going s → IsPaidTo reduce.accounts later t)
       → (later.turns < 2 ^ 64 - 1 → (saves : ℕ)
       × (interval_of going.budget * saves + going.shown ≤ later.shown)
@@ -220,8 +225,8 @@ module _ {S : Type 0} (tells : S → Bool) (world : S → World) (counts : S →
       → Some d.nodes ≡ reduce.count_in t
       → OnlySortShelf {T = MadeDiagram} (counts old) (counts new) (Ok d)
       → Sweeps tells world counts making going old new (Ok d)
-  on_ended later d fits turns_are next_is_d made late more paid counted few keeps ended same_out same_variables nodes
-      faults = record {
+  on_ended later d fits turns_are next_is_d made late more within stay paid counted few keeps ended same_out
+      same_variables nodes faults = record {
         made = λ told g given.
             let left = few_left told g given in
             let turns = few told (job told g given) (way told g given).remains in
@@ -255,6 +260,14 @@ module _ {S : Type 0} (tells : S → Bool) (world : S → World) (counts : S →
           },
         );
         few_anew = λ anew. absurd (let last_is = may.at_point.last_is in cc);
+        untaken =
+            let most = within starts.within in
+            let last : t.parts.next ≡ d.next = omega (arith, next_is_d, most) in
+            λ told. subst (λ k. NoneFilled making.number k (world old) (world new)) last
+            (none_swept (reduce.accounts.makes s) (IsOperand (reduce.task_of s)) making.number s.parts.next t.parts.next
+            (world old) (world mid) (world new) starts.may.files more (starts.untaken (run.changes.before told))
+            (subst (λ k. StayEmpty (reduce.accounts.makes s) k t.parts.next (world mid) (world new)) may.step_is
+            (stay told)));
         calls = λ told exact.
             let below : later.turns < 2 ^ 64 - 1 = omega (arith, exact, turns_are) in
             let its = counted below in

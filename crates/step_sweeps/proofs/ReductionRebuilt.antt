@@ -25,6 +25,7 @@ use Rattle.sweep_checkpoint.specs.Going.{first_owed}
 use Rattle.sweep_checkpoint.specs.declared.going.Going.{Going}
 use Rattle.sweep_checkpoint.specs.Stops.{SamePoints}
 use Rattle.sweep_core.specs.declared.checkpoint.Checkpoint.{Checkpoint}
+use Rattle.sweep_core.specs.Accounts.{NoneFilled}
 use Rattle.sweep_core.specs.Carries.{OnlyCutBehind}
 use Rattle.sweep_core.specs.Saving.{IsOfStep, reads_of}
 use Rattle.sweep_core.specs.Sweeps.{IsNoDamage}
@@ -57,6 +58,7 @@ use Rattle.step_sweeps.specs.Sweeping.{MayResume, Sweeps, IsReductionFor, most_t
 use Rattle.step_sweeps.proofs.Rebuilt.{made_sure, sure_still, all_sure}
 use Rattle.step_sweeps.proofs.Running.{stays_step}
 use Rattle.step_sweeps.proofs.Stops.{along_cuts, given_shows}
+use Rattle.step_sweeps.proofs.Unfilled.{none_cut}
 
 -- a run's part is none of the file that is made
 not_a_run : (c : Checkpoint) (part : ℕ) (table : RunTable) (f : FileNo) (n : ℕ) → IsSavedTable c part table
@@ -251,6 +253,7 @@ module _ (making : Making) (going : Going) (may : MayResume making.number going)
       content = stays_step tells world making.number old mid content;
       counted = tt;
       few_anew = tt;
+      untaken = tt;
       calls = tt;
       faults = sort_shelf_on _ _ e (Err e) refl faults;
     }
@@ -287,6 +290,7 @@ module _ (making : Making) (going : Going) (may : MayResume making.number going)
       content = cut_content tells world old mid files_are it.content;
       counted = tt;
       few_anew = tt;
+      untaken = tt;
       calls = tt;
       faults = sort_shelf_on _ _ e (Err e) refl it.faults;
     }
@@ -378,6 +382,10 @@ module _ (making : Making) (going : Going) (may : MayResume making.number going)
           );
       images = cut_safe tells world old mid files_are rebuilt.content;
       content = cut_content tells world old mid files_are rebuilt.content;
+      within = let next_is = rebuilt.parts.1 in let most = may.at_point.rules.parts.1 in omega (arith, next_is, most);
+      untaken = λ told_mid. subst (λ k. NoneFilled making.number k (world old) (world mid)) (sym rebuilt.parts.1)
+          (none_cut c (resumes.RestsOn c) making.number (world old) (world mid) of_number may.at_point.rules.parts.0
+          (rebuilt.content.did told_mid));
       owed = subst (λ last. s.parts.next ≤ first_owed last s.parts.next) (sym may.at_point.last_is)
           (let next_is = rebuilt.parts.1 in omega (arith, next_is));
       stock = subst (λ last. reduce.stock_of s ≤ 256 * owed_parts last) (sym may.at_point.last_is)

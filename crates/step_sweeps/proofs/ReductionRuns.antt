@@ -22,6 +22,7 @@ use Rattle.step_going.proofs.Shown.{quiet_stops, stops_join, stops_more}
 use Rattle.sweep_checkpoint.specs.Going.{IsOfGoing, IsLeftAlone, IsAsBefore, GoesOn, AreSure, TakesParts, TakesCalls, IsPaidTo, interval_of, first_owed}
 use Rattle.sweep_checkpoint.specs.declared.going.Going.{Going}
 use Rattle.sweep_checkpoint.specs.Stops.{StopsCost, stop_calls}
+use Rattle.sweep_core.specs.Accounts.{NoneFilled, StayEmpty}
 use Rattle.sweep_core.specs.Sweeps.{IsNoDamage}
 use Rattle.node_file.specs.Canonical.{IsMade}
 use Rattle.arc_file.specs.declared.kind.Kind.TheVariants.{Inner, End}
@@ -50,6 +51,7 @@ use Rattle.step_sweeps.proofs.Costs.{few_saves, spent_turns}
 use Rattle.step_sweeps.proofs.Running.{file_stays}
 use Rattle.step_sweeps.proofs.Stops.{RunStops, run_stops, still_shows}
 use Rattle.step_sweeps.proofs.SweptReduction.{HasBegun, job_for, reduced_safe, few_left, cut_only}
+use Rattle.step_sweeps.proofs.Unfilled.{none_on_nodes}
 
 -- what so many turns at most and saves took, where no more turns were left than eight for each source, and eight
 sums : (sources left shown turns interval saves next from first owed stock later_stock credit later_credit old mid new : ℕ)
@@ -126,6 +128,7 @@ module _ {S : Type 0} (tells : S → Bool) (world : S → World) (counts : S →
         (cut_only making (world old) (world new) run));
     counted = tt;
     taken = tt;
+    untaken = tt;
     calls = tt;
     few_calls = λ told g are.
         let few = calls told in (
@@ -291,6 +294,7 @@ module _ {S : Type 0} (tells : S → Bool) (world : S → World) (counts : S →
       content = step_content;
       counted = tt;
       taken = tt;
+      untaken = tt;
       calls = tt;
       few_calls = its_calls;
       stops = its_stops;
@@ -301,6 +305,8 @@ module _ {S : Type 0} (tells : S → Bool) (world : S → World) (counts : S →
     pub run_ended : (later : Going) (d : MadeDiagram) → d.turns ≡ later.turns
         → d.next ≡ min t.parts.next (2 ^ 32) → (going.turns ≤ later.turns) × (0 < later.turns)
         → (going.shown ≤ going.turns → later.shown ≤ later.turns) → s.parts.next ≤ t.parts.next
+        → (s.parts.next ≤ 2 ^ 32 → t.parts.next ≤ 2 ^ 32) → (IsTrue (tells new)
+        → StayEmpty (reduce.accounts.makes s) going.step t.parts.next (world mid) (world new))
         → (later.turns < 2 ^ 64 - 1 → IsPaidTo reduce.accounts (record going { sweep = 1 }) s
         → IsPaidTo reduce.accounts later t)
         → (later.turns < 2 ^ 64 - 1 → (saves : ℕ)
@@ -315,7 +321,7 @@ module _ {S : Type 0} (tells : S → Bool) (world : S → World) (counts : S →
         → IsMade making.n (table_by making g) (node_file making.number) d.nodes (world new))
         → OnlySortShelf {T = MadeDiagram} (counts old) (counts new) (Ok d)
         → Reduces tells world counts making m going 8 (sweep_stop going m.parts.next) old new (Ok d)
-    run_ended later d turns_are next_is_d made late more paid counted few nodes faults = record {
+    run_ended later d turns_are next_is_d made late more within stay paid counted few nodes faults = record {
       made = λ told g are.
           let turns = few told (job_for tells world making m going s old mid files may begun g are.has)
           (remains told g are) in
@@ -339,6 +345,20 @@ module _ {S : Type 0} (tells : S → Bool) (world : S → World) (counts : S →
           ];
         },
       );
+      untaken =
+          let same = next_is in
+          let past = may.past in
+          let below = may.below in
+          let most = within (omega (arith, same, below)) in
+          let last : t.parts.next ≡ d.next = omega (arith, next_is_d, most) in (
+            omega (arith, same, more, last),
+            λ told. subst (λ k. NoneFilled making.number k (world old) (world new)) last
+                (none_on_nodes (reduce.accounts.makes s) making.number m.parts.next t.parts.next (world old) (world mid)
+                (world new) (omega (arith, past)) (omega (arith, same, more)) (λ f mine. mine ∙ begun.out_is)
+                (cut_only making (world old) (world mid) (begun.content.did (run.changes.before told)))
+                (subst (λ k. StayEmpty (reduce.accounts.makes s) k t.parts.next (world mid) (world new)) may.step_is
+                (stay told))),
+          );
       taken = λ before.
           let same = next_is in
           let shows = late may.paid.shown in

@@ -30,11 +30,13 @@ use Rattle.step_sweeps.specs.Made.{node_file, OnlyStep, HasArcFiles, arc_count}
 use Rattle.step_sweeps.specs.Makes.{goes_on_by, table_by, work_for}
 use Rattle.step_sweeps.specs.Stops.{shown_by, reduce_stop}
 use Rattle.step_sweeps.specs.Sweeping.{AreReducible, MayReduce, Reduces, Takes, calls_of}
+use Rattle.sweep_core.proofs.Untaken.{none_then}
 use Rattle.step_sweeps.proofs.ArcsReduced.{has_shows, points_meanwhile, room_makes, room_stops, safe_meanwhile, still_covered, still_has}
 use Rattle.step_sweeps.proofs.EndedKept.{never_spent, no_damage_of, faults_on, kept_changes, kept_made}
 use Rattle.step_sweeps.proofs.Running.{faults_ok, folder_ok}
 use Rattle.step_sweeps.proofs.Stops.{still_shows}
 use Rattle.step_sweeps.proofs.StopsAnew.{kept_stops}
+use Rattle.step_sweeps.proofs.Unfilled.{none_by_points}
 use Rattle.step_sweeps.proofs.WaysAnew.{changed_run, node_changes}
 
 module _ {S : Type 0} (tells : S → Bool) (world : S → World) (counts : S → Faults) (making : Making) (m : MadeArcs)
@@ -125,6 +127,7 @@ module _ {S : Type 0} (tells : S → Bool) (world : S → World) (counts : S →
     content = both_change (Err e) keeps;
     counted = tt;
     taken = tt;
+    untaken = tt;
     calls = tt;
     few_calls = λ told_new g are. both_calls (Err e) keeps told_new are.has.sources are.has.has_sources;
     stops = both_stops (Err e) keeps;
@@ -151,6 +154,13 @@ module _ {S : Type 0} (tells : S → Bool) (world : S → World) (counts : S →
         content = both_change (Ok tt) keeps;
         counted = first.counted;
         taken = first.taken;
+        untaken = (
+          first.untaken.0,
+          λ told_new. none_then making.number d.next d.next (world old) (world mid) (world new) (omega arith)
+              (first.untaken.1 (keeps.content.before told_new))
+              (none_by_points making.number d.next (world mid) (world new)
+              (let past = may.past in omega (arith, past, next_is)) (keeps.content.did told_new)),
+        );
         calls = λ exact. (
           record { saves = 0; parts = 0; few_saves = omega arith; few_parts = omega arith },
           λ told_new.

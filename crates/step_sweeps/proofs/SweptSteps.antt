@@ -16,6 +16,7 @@ use Rattle.sweep_checkpoint.specs.Stops.{StopsCost}
 use Rattle.step_going.proofs.Shown.{stops_join, stops_more}
 use Rattle.sweep_checkpoint.specs.declared.going.Going.{Going}
 use Rattle.sweep_core.specs.Saving.{reads_of}
+use Rattle.sweep_core.proofs.Untaken.{none_then}
 use Rattle.resumable.specs.Diagrams.{diagram_rests}
 use Rattle.top_down_sweep.specs.Ordered.{AreOrdered}
 use Rattle.top_down_sweep.specs.Tasks.{AreArcFiles}
@@ -77,6 +78,7 @@ module _ {S : Type 0} (tells : S → Bool) (world : S → World) (counts : S →
       content = first.content;
       counted = tt;
       few_anew = tt;
+      untaken = tt;
       calls = tt;
       faults = faults;
     }
@@ -198,6 +200,8 @@ module _ {S : Type 0} (tells : S → Bool) (world : S → World) (counts : S →
                 let more = counted.0 in
                 (omega (arith, grew, more), counted.1)) second.counted;
             few_anew = ok_more r _ _ (λ d few anew. few (first.taken anew)) second.taken;
+            untaken = ok_more r _ _ (λ d its told. none_then making.number m.parts.next d.next (world before) (world at)
+                (world after) its.0 (first.untaken (began told)) (its.1 told)) second.untaken;
             calls = ok_both r _ _ _ (λ d counted calls told below.
                 let more = counted.0 in
                 let grew = first.grew in
@@ -245,6 +249,7 @@ module _ {S : Type 0} (tells : S → Bool) (world : S → World) (counts : S →
         content = sweeps.content;
         counted = sweeps.counted;
         few_anew = ok_more r _ _ (λ d few. few anew) sweeps.few_anew;
+        untaken = sweeps.untaken;
         calls = ok_more r _ _ (λ d calls told below.
             let made = calls told below in
             let rest = none nodes in

@@ -24,6 +24,7 @@ use Rattle.run_tiers.proofs.FaultLaws.{sort_shelf_then}
 use Rattle.step_going.specs.Standing.{AreSafe, HasNone}
 use Rattle.step_going.proofs.Kept.{safe_over}
 use Rattle.sweep_core.specs.Sweeps.{IsNoDamage}
+use Rattle.sweep_core.proofs.Untaken.{none_then}
 use Rattle.node_file.specs.Nodes.{HasTrailer}
 use Rattle.node_reading.specs.Reading.{IsDamagedNode}
 use Rattle.node_file.specs.Canonical.{IsMade}
@@ -44,6 +45,7 @@ use Rattle.step_going.proofs.Shown.{stops_more, stops_join}
 use Rattle.step_sweeps.proofs.Faults.{no_damage}
 use Rattle.step_sweeps.proofs.StopsAnew.{stops_anew}
 use Rattle.step_sweeps.proofs.Running.{gate_apart, ok_more, ok_both, err_more}
+use Rattle.step_sweeps.proofs.Unfilled.{none_by_nodes}
 
 -- damage of a file that is as it was
 still_damaged : (Misses : List ℕ → ℕ → Type 0) (n : ℕ) (read : FileNo) (old new : World) (f : FileNo) (at : ℕ)
@@ -224,6 +226,8 @@ module _ {S : Type 0} (tells : S → Bool) (world : S → World) (counts : S →
     content = node_changes tells world making.number old new makes.content;
     counted = (omega arith, makes.counted);
     few_anew = makes.few_anew;
+    untaken = λ told. let from = makes.counted.from in
+        none_by_nodes making.number m.next (world old) (world new) (omega (arith, from)) (makes.content.did told);
     calls = λ told below. let calls = makes.calls told below in omega (arith, calls);
     stops = λ told g is work. stops_anew making.number ((world old).clock + stop) (world old) (world new) is.none
         (makes.content.did told) (let short = makes.short told in omega (arith, short, more));
@@ -239,6 +243,7 @@ module _ {S : Type 0} (tells : S → Bool) (world : S → World) (counts : S →
     content = node_changes tells world making.number old new makes.content;
     counted = tt;
     few_anew = tt;
+    untaken = tt;
     calls = tt;
     stops = λ told g is work. stops_anew making.number ((world old).clock + stop) (world old) (world new) is.none
         (makes.content.did told) (let short = makes.short told in omega (arith, short, more));
@@ -266,6 +271,7 @@ module _ {S : Type 0} (tells : S → Bool) (world : S → World) (counts : S →
     content = node_changes tells world making.number old new content;
     counted = tt;
     few_anew = tt;
+    untaken = tt;
     calls = tt;
     stops = λ told g given work. stops_anew making.number ((world old).clock + stop) (world old) (world new) given.none
         (content.did told) (short told);
@@ -316,6 +322,10 @@ module _ {S : Type 0} (tells : S → Bool) (world : S → World) (counts : S →
         counted = ok_more r _ _ (λ m is.
             let within = is.0 in (omega (arith, counts_on, within), is.1)) makes.counted;
         few_anew = makes.few_anew;
+        untaken = ok_both r _ _ _ (λ m is none told. none_then making.number m.next m.next (world old) (world mid)
+            (world new) (omega arith) (let from = is.1.from in none_by_nodes making.number m.next (world old) (world mid)
+            (omega (arith, from)) (looked_changed making.number looked (world old) (world mid) (looked_at told)))
+            (none told)) makes.counted makes.untaken;
         calls = ok_both r _ _ _ (λ m is calls told below.
             let first_calls = (looked_at told).few in
             let within = is.0 in
@@ -377,6 +387,7 @@ module _ {S : Type 0} (tells : S → Bool) (world : S → World) (counts : S →
     content = looked_step tells world making.number 4 old new look;
     counted = tt;
     few_anew = tt;
+    untaken = tt;
     calls = tt;
     stops = λ told g given work. stops_anew making.number ((world old).clock + stop) (world old) (world new) given.none
         (looked_changed making.number 4 (world old) (world new) (look.did told))

@@ -21,6 +21,7 @@ use Rattle.step_work.specs.Works.{work_for}
 use Rattle.sweep_checkpoint.specs.Stops.{StopsCost}
 use Rattle.sweep_checkpoint.specs.declared.going.Going.{Going}
 use Rattle.sweep_core.specs.declared.checkpoint.Checkpoint.{Checkpoint}
+use Rattle.sweep_core.specs.Accounts.{NoneFilled}
 use Rattle.sweep_core.specs.Saving.{reads_of}
 use Rattle.sweep_core.specs.Sweeps.{IsNoDamage}
 use Rattle.product_sweep.specs.Implications.{Implication}
@@ -141,6 +142,8 @@ pub record Answers {S Given : Type 0} (tells : S → Bool) (world : S → World)
       → reads_of (world before) (checkpoint_gate going.step) ≡ [] → q.is_fault (world before) e)
   pub content : Told tells before after
       (Ran (OnlyChanged (IsBehindNodes going.step) (now (world before))) (world before) (world after))
+  -- no file of the step is filled whose part wasn't taken
+  pub untaken : IfOk result (λ a. IsTrue (tells after) → NoneFilled going.step a.next (world before) (world after))
   pub counted : IfOk result (λ a. IsCounted a.turns a.next)
   pub few_anew : IfOk result (λ a. going.last ≡ None → FewAnew a.turns a.next)
   pub calls : IfOk result (λ a. IsTrue (tells after) → a.turns < 2 ^ 64 - 1 → (world after).clock

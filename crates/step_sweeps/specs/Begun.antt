@@ -1,5 +1,5 @@
 -- A sweep that is to answer a question, begun anew or gone on with from the step's last checkpoint.
-use Rattle.std.specs.Prelude.{◌≡◌, ℕ, ◌+◌, ◌/◌, ◌<◌, ◌≤◌, Bool, IsTrue, Ok, None, Some}
+use Rattle.std.specs.Prelude.{◌≡◌, ℕ, ◌+◌, ◌/◌, ◌^◌, ◌<◌, ◌≤◌, Bool, IsTrue, Ok, None, Some}
 use Rattle.shelf_model.specs.declared.file_no.FileNo.{FileNo}
 use Rattle.shelf_model.specs.Calls.{Told}
 use Rattle.shelf_model.specs.Faults.{Faults}
@@ -13,6 +13,7 @@ use Rattle.sweep_checkpoint.specs.Going.{first_owed}
 use Rattle.sweep_checkpoint.specs.declared.going.Going.{Going}
 use Rattle.sweep_core.specs.declared.checkpoint.Checkpoint.{Checkpoint}
 use Rattle.sweep_core.specs.declared.sweep.Sweep as sweep
+use Rattle.sweep_core.specs.Accounts.{NoneFilled}
 use Rattle.sweep_core.specs.Carries.{IsBehindPoints}
 use Rattle.sweep_core.specs.Saving.{IsOfStep, reads_of}
 use Rattle.step_sweeps.specs.Answers.{Question, IsAsked}
@@ -53,6 +54,10 @@ pub record Begun {S Given P : Type 0} (tells : S → Bool) (world : S → World)
   pub trusts : IsTrue (tells after) → going.last ≡ None → kind.trusts s (world after)
   pub content : Told tells before after
       (Ran (OnlyChanged (IsBehindPoints going.step) (now (world before))) (world before) (world after))
+  -- no part number from 2^32 on was taken, and no file is filled whose part wasn't
+  pub within : kind.accounts.next s ≤ 2 ^ 32
+  pub untaken : IsTrue (tells after)
+      → NoneFilled going.step (kind.accounts.next s) (world before) (world after)
   -- the next save cuts no part that was taken before, and what was made or is paid for, in calls and in parts, is few
   pub owed : kind.accounts.next s ≤ first_owed going.last (kind.accounts.next s)
   pub stock : going.last ≡ None → kind.accounts.stock s ≡ 0

@@ -14,6 +14,7 @@ use Rattle.run_tiers.specs.Syncs.{IsFirm}
 use Rattle.step_going.specs.Standing.{AreSafe, IsStanding}
 use Rattle.sweep_checkpoint.specs.Stops.{StopsCost}
 use Rattle.sweep_checkpoint.specs.declared.going.Going.{Going}
+use Rattle.sweep_core.specs.Accounts.{NoneFilled}
 use Rattle.sweep_core.specs.Saving.{reads_of}
 use Rattle.sweep_core.specs.Sweeps.{IsNoDamage}
 use Rattle.node_file.specs.Canonical.{IsMade}
@@ -96,6 +97,8 @@ pub record Makes {S : Type 0} (tells : S → Bool) (world : S → World) (counts
       → IsArcsFault making.operation making.n making.operands (world before) e)
   pub content : Told tells before after
       (Ran (OnlyStep making.number (now (world before))) (world before) (world after))
+  -- no file of the step is filled whose part wasn't taken
+  pub untaken : IfOk result (λ m. IsTrue (tells after) → NoneFilled making.number m.next (world before) (world after))
   pub counted : IfOk result (λ m. IsCounted m.turns m.next)
   pub few_anew : IfOk result (λ m. going.last ≡ None → FewAnew m.turns m.next)
   pub calls : IfOk result (λ m. IsTrue (tells after) → m.turns < 2 ^ 64 - 1 → (world after).clock

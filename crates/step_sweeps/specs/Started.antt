@@ -1,5 +1,5 @@
 -- A sweep of a step that makes a diagram, as it is begun anew, or rebuilt from the step's last checkpoint.
-use Rattle.std.specs.Prelude.{◌≡◌, ◌⊎◌, ℕ, ◌+◌, ◌-◌, ◌*◌, ◌<◌, ◌≤◌, Bool, IsTrue, Ok, Option, Some}
+use Rattle.std.specs.Prelude.{◌≡◌, ◌⊎◌, ℕ, ◌+◌, ◌-◌, ◌*◌, ◌^◌, ◌<◌, ◌≤◌, Bool, IsTrue, Ok, Option, Some}
 use Rattle.shelf_model.specs.declared.file_no.FileNo.{FileNo}
 use Rattle.shelf_model.specs.Calls.{Told}
 use Rattle.shelf_model.specs.Faults.{Faults}
@@ -13,6 +13,7 @@ use Rattle.sweep_checkpoint.specs.Stops.{SamePoints}
 use Rattle.sweep_checkpoint.specs.declared.going.Going.{Going}
 use Rattle.sweep_core.specs.declared.checkpoint.Checkpoint.{Checkpoint}
 use Rattle.sweep_core.specs.declared.sweep.Sweep as sweep
+use Rattle.sweep_core.specs.Accounts.{NoneFilled}
 use Rattle.sweep_core.specs.Saving.{IsOfStep, reads_of}
 use Rattle.resumable.specs.Diagrams.{diagram_rests}
 use Rattle.step_sweeps.specs.declared.task.Making.{Making}
@@ -58,6 +59,10 @@ pub record Starts {S P : Type 0} (tells : S → Bool) (world : S → World) (cou
   -- whatever the files hold
   pub content : Told tells before after
       (Ran (OnlyStep making.number (now (world before))) (world before) (world after))
+  -- no part number from 2^32 on was taken, and no file is filled whose part wasn't
+  pub within : kind.accounts.next s ≤ 2 ^ 32
+  pub untaken : IsTrue (tells after)
+      → NoneFilled making.number (kind.accounts.next s) (world before) (world after)
   -- no part that was taken may have to be cut, and the calls that are paid for count with those that were made
   pub owed : kind.accounts.next s ≤ first_owed going.last (kind.accounts.next s)
   pub stock : kind.accounts.stock s ≤ 256 * owed_parts going.last

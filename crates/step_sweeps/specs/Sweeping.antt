@@ -19,6 +19,7 @@ use Rattle.sweep_checkpoint.specs.Saves.{gated_size}
 use Rattle.sweep_checkpoint.specs.Stops.{StopsCost}
 use Rattle.sweep_checkpoint.specs.declared.going.Going.{Going}
 use Rattle.sweep_core.specs.declared.checkpoint.Checkpoint.{Checkpoint}
+use Rattle.sweep_core.specs.Accounts.{NoneFilled}
 use Rattle.sweep_core.specs.Saving.{reads_of}
 use Rattle.sweep_core.specs.Sweeps.{IsNoDamage}
 use Rattle.node_file.specs.Canonical.{IsMade}
@@ -132,6 +133,8 @@ pub record Sweeps {S : Type 0} (tells : S → Bool) (world : S → World) (count
       → IsArcsFault making.operation making.n making.operands (world before) e)
   pub content : Told tells before after
       (Ran (OnlyStep making.number (now (world before))) (world before) (world after))
+  -- no file of the step is filled whose part wasn't taken
+  pub untaken : IfOk result (λ m. IsTrue (tells after) → NoneFilled making.number m.next (world before) (world after))
   pub counted : IfOk result (λ m. (going.turns ≤ m.turns) × IsCounted m.turns m.next)
   pub few_anew : IfOk result (λ m. going.last ≡ None → FewAnew m.turns m.next)
   pub calls : IfOk result (λ m. IsTrue (tells after) → m.turns < 2 ^ 64 - 1
@@ -233,6 +236,9 @@ pub record ComesToArcs (Misses : List ℕ → ℕ → Type 0) {S : Type 0} (tell
       → AreOrdered m.arcs (world after) × IsCovered making.number (world after))
   pub content : Told tells before after
       (Ran (OnlyStep making.number (now (world before))) (world before) (world after))
+  -- no file of the step is filled whose part wasn't taken
+  pub untaken : IfOk result (λ m. IsTrue (tells after)
+      → NoneFilled making.number m.parts.next (world before) (world after))
   -- the turns grew, and few parts were taken for them
   pub grew : OnOk result (old.turns ≤ new.turns)
   pub paid : IfOk result (λ m. IsPaidUp new m.parts.next)
@@ -291,6 +297,9 @@ pub record Reduces {S : Type 0} (tells : S → Bool) (world : S → World) (coun
         → IsCovered making.number (world before) → IsNoDamage e)
     pub content : Told tells before after
         (Ran (OnlyStep making.number (now (world before))) (world before) (world after))
+    -- parts were taken in turn, and no file of the step is filled whose part wasn't
+    pub untaken : IfOk result (λ m. (arcs.parts.next ≤ m.next)
+        × (IsTrue (tells after) → NoneFilled making.number m.next (world before) (world after)))
     pub counted : IfOk result (λ m. (going.turns ≤ m.turns) × IsCounted m.turns m.next)
     pub taken : IfOk result (λ m. IsTakenFor going arcs.parts.next → FewAnew m.turns m.next)
     -- what that cost, where so many parts may have to be cut that were taken before

@@ -11,6 +11,7 @@ use Rattle.run_tiers.specs.Faults.{OnlySortShelf}
 use Rattle.step_going.specs.Standing.{AreSafe, HasNone}
 use Rattle.sweep_checkpoint.specs.Stops.{StopsCost}
 use Rattle.sweep_checkpoint.specs.declared.going.Going.{Going}
+use Rattle.sweep_core.specs.Accounts.{NoneFilled}
 use Rattle.sweep_core.specs.Sweeps.{IsNoDamage}
 use Rattle.node_file.specs.Canonical.{IsMade}
 use Rattle.step_sweeps.specs.declared.diagram.MadeDiagram.{MadeDiagram}
@@ -80,6 +81,8 @@ pub record MakesAnew {S : Type 0} (tells : S → Bool) (world : S → World) (co
       → IsArcsFault making.operation making.n making.operands (world before) e)
   pub content : Told tells before after
       (Ran (OnlyStep making.number (now (world before))) (world before) (world after))
+  -- no file of the step is filled whose part wasn't taken
+  pub untaken : IfOk result (λ m. IsTrue (tells after) → NoneFilled making.number m.next (world before) (world after))
   pub counted : IfOk result (λ m. (earlier ≤ m.turns) × IsCounted m.turns m.next)
   pub few_anew : IfOk result (λ m. FewAnew m.turns m.next)
   pub calls : IfOk result (λ m. IsTrue (tells after) → m.turns < 2 ^ 64 - 1

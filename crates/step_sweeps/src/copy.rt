@@ -5,7 +5,6 @@ ghost use Rattle.copied_diagrams.specs.declared.way.Way.TheVariants as ways;
 ghost use Rattle.step_sweeps.specs.Copied.{CopiesTo};
 ghost use Rattle.step_sweeps.specs.Given.{AreEarlier};
 ghost use Rattle.step_sweeps.specs.Pairs.{Leads};
-ghost use Rattle.step_sweeps.specs.Going.{next_of};
 ghost use Rattle.step_sweeps.specs.Made.{node_file};
 ghost use Rattle.step_sweeps.specs.Makes.{work_for};
 ghost use Rattle.step_sweeps.specs.Kinds.{copy_kind};
@@ -16,6 +15,7 @@ ghost use Rattle.step_sweeps.specs.Stops.{sweeps_stop};
 
 use crate::MadeDiagram;
 use crate::foreign::foreign_point;
+use crate::reduction::PARTS;
 use crate::task::Making;
 use copied_diagrams::Source;
 use copy_sweep::{CopySweep, CopyTask};
@@ -56,7 +56,8 @@ pub(crate) fn copy_in_turns<S: Shelf>(
     Ok(MadeDiagram {
         nodes: source.trailer.count,
         turns: going.turns,
-        next: INNER_PART,
+        // A step has no more part numbers.
+        next: sweep.parts().next.min(PARTS),
     })
 }
 
@@ -74,14 +75,13 @@ pub(crate) fn copy_on<S: Shelf>(
     requires tables { (c : Checkpoint) → going.old.last ≡ Some c → c.tables ≡ 0 }
     ensures sweeps { Sweeps S.tells S.world S.faults making going.old shelf.old shelf.new result }
 {
-    let next = next_part(going);
     let mut sweep = rebuild_copy(making, going, room, shelf)?;
     run_saved(&mut sweep, going, shelf)?;
     let size = shelf.len(node_file(making.number))?;
     Ok(MadeDiagram {
         nodes: (size / NODE_SIZE).saturating_sub(1),
         turns: going.turns,
-        next,
+        next: sweep.parts().next.min(PARTS),
     })
 }
 
@@ -127,14 +127,4 @@ fn is_operand(file: FileNo, making: Making) -> bool
     ensures { IsTrue result ↔ IsOperand making file }
 {
     file == making.operands.first || file == making.operands.second
-}
-
-// The next part number, as the last checkpoint says. A copy takes none.
-fn next_part(going: &Going) -> u64
-    ensures { result ≡ next_of going.now.last }
-{
-    match &going.last {
-        Some(point) => point.next_part,
-        None => INNER_PART,
-    }
 }

@@ -76,10 +76,13 @@ returns-clause-answers g c =
           let late = ended.late c.in_ok-sweep.ensures.begun.paid.shown in
           record { saves = counted.0; few = omega (arith, shown, late); parts = counted.2; calls = counted.3 };
       grew = ended.grew.0;
+      more = ended.later;
+      untaken = ended.untaken;
       faults = ended.faults;
     })
     (record { some = omega (arith, made); from = omega arith; below = omega arith; few = omega arith })
-    (let from = c.in_ok-sweep.ensures.begun.files.parts in let later = ended.later in omega (arith, from, later))
+    (let next = ap (λ (t : Evaluated). t.parts.next) (ended.same ∙ c.in_ok-sweep.ensures.begun.task_is) in
+    omega (arith, next))
     (λ told t remains. let task_is = ended.same ∙ c.in_ok-sweep.ensures.begun.task_is in
     eval_answer c.run_saved.new.sweep (g.S.Shelf.world c.run_saved.new.shelf) (one_table c.args.n t) c.args.n c.args.at
     c.args.text.now c.in-Some.answer (sym c.answer.ensures ∙ c.in-Some.is)

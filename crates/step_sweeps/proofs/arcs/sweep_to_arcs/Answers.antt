@@ -52,6 +52,7 @@ ended g c is word =
       trusts = said.trusts;
       covers = said.covers;
       recent = said.recent;
+      untaken = said.untaken;
       shown = said.shown;
       word = word;
     })

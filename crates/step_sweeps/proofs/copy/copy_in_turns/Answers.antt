@@ -1,5 +1,6 @@
-use Rattle.std.proofs.Common.{◌≡◌, refl, ap, arith}
-use Rattle.std.specs.Prelude.{Err}
+use Rattle.std.proofs.Common.{◌≡◌, ◌∙◌, ◌^◌, refl, ap, arith}
+use Rattle.std.specs.Prelude.{min, Err}
+use Rattle.run_tiers.specs.declared.parts.Parts.{Parts}
 use Rattle.run_tiers.proofs.FaultLaws.{sort_shelf_on, sort_shelf_then}
 use Rattle.shelf_model.specs.declared.sort_fault.SortFault.{SortFault}
 use Rattle.shelf_model.specs.declared.sort_fault.SortFault.TheVariants.{RunsSpent}
@@ -48,7 +49,8 @@ returns g c =
             took = λ told job remains. let its = said.few_calls told job remains in (its.0, its.1, its.2, its.3);
             images = said.images;
             stops = said.stops;
-          }) c.run_saved.new.going _ refl refl refl
+          }) c.run_saved.new.going _ refl refl
+          (c.min.ensures ∙ ap (λ (p : Parts). min p.next (2 ^ 32)) c.parts.ensures) said.later said.within said.untaken
           (let made = said.made in omega (arith, made)) said.late said.counted said.few said.keeps
           said.same said.ended said.in_step
           (faults_ok _ _ _ c.start.result c.run_saved.result _ c.start.ensures.faults c.run_saved.ensures.faults);

@@ -1,5 +1,6 @@
-use Rattle.std.proofs.Common.{◌≡◌, refl, ap}
-use Rattle.std.specs.Prelude.{Ok, Err}
+use Rattle.std.proofs.Common.{◌≡◌, ◌∙◌, ◌^◌, refl, ap}
+use Rattle.std.specs.Prelude.{min, Ok, Err}
+use Rattle.run_tiers.specs.declared.parts.Parts.{Parts}
 use Rattle.run_tiers.proofs.FaultLaws.{sort_shelf_on, sort_shelf_then}
 use Rattle.shelf_model.specs.declared.sort_fault.SortFault.{SortFault}
 use Rattle.shelf_model.specs.declared.sort_fault.SortFault.TheVariants.{Shelf, RunsSpent}
@@ -73,8 +74,9 @@ returns g c =
             images = said.images;
             stops = said.stops;
           }) c.len.new.self c.node_file.result c.node_file.ensures _ c.in_ok-size.ensures.content
-          c.run_saved.new.going _ c.in_ok-size.size c.saturating_sub.ensures refl c.next_part-next.ensures
-          (λ told. (c.in_ok-size.ensures.content.did told).ok) said.grew said.late said.counted said.few said.keeps
+          c.run_saved.new.going _ c.in_ok-size.size c.saturating_sub.ensures refl
+          (c.min.ensures ∙ ap (λ (p : Parts). min p.next (2 ^ 32)) c.parts.ensures) said.later said.within said.untaken
+          said.paid (λ told. (c.in_ok-size.ensures.content.did told).ok) said.grew said.late said.counted said.few said.keeps
           said.same said.ended said.in_step
           (measured_ok _ _ _ c.in_ok-sweep.sweep c.in_ok-size.size _
           (faults_ok _ _ _ (Ok c.in_ok-sweep.sweep) c.run_saved.result _ began.starts.faults c.run_saved.ensures.faults)

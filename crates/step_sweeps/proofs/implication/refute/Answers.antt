@@ -84,6 +84,8 @@ returns g c =
                 let late = ended.late c.in_ok-sweep.ensures.begun.paid.shown in
                 record { saves = counted.0; few = omega (arith, shown, late); parts = counted.2; calls = counted.3 };
             grew = ended.grew.0;
+            more = ended.later;
+            untaken = ended.untaken;
             faults = ended.faults;
           })
           (counted_of c.run_saved.new.going.turns c.min.result (accounts.stock c.run_saved.new.sweep) (omega (arith, made))
@@ -91,7 +93,8 @@ returns g c =
           let paid_to = ended.paid below c.in_ok-sweep.ensures.begun.paid in
           let paid = paid_to.paid in
           let shown = paid_to.shown in
-          omega (arith, paid, shown, next))) (omega (arith, next))
+          omega (arith, paid, shown, next)))
+          (let within = ended.within c.in_ok-sweep.ensures.begun.within in omega (arith, next, within))
           (λ told d remains. c.in-Some.ensures.is_right (g.S.Shelf.world c.run_saved.new.shelf) (refutation_of c.args.n d)
           remains);
     }

@@ -54,7 +54,7 @@ returns g c =
             stops = said.stops;
           }) c.run_saved.new.going c.reduced.result (search arith) c.reduced.ensures.turns c.reduced.ensures.next
           said.made
-          said.late said.later said.paid said.counted said.few said.keeps said.ended
+          said.late said.later said.within said.untaken said.paid said.counted said.few said.keeps said.ended
           (ap (λ (x : Task). x.out) said.same) (ap (λ (x : Task). x.variables) said.same) c.reduced.ensures.nodes
           (faults_ok _ _ _ (Ok c.in_ok-sweep.sweep) c.run_saved.result _ began.starts.faults c.run_saved.ensures.faults);
     }

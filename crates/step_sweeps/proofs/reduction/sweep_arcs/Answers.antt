@@ -92,7 +92,7 @@ returns g c =
           c.run_saved.new.shelf
           (begun g here) began.calls began.stock (ran g here) c.run_saved.new.going c.reduced.result
           c.reduced.ensures.turns c.reduced.ensures.next
-          said.grew said.late said.later said.paid said.counted said.few
+          said.grew said.late said.later said.within said.untaken said.paid said.counted said.few
           (λ told g are remains.
           reduced_at_end c.args.making.n c.args.making.number (table_by c.args.making g) t _ _ _ said.ended
           (ap (λ (x : Task). x.out) said.same ∙ began.files.0 ∙ c.node_file-out.ensures) (ap (λ (x : Task). x.variables) said.same ∙ began.variables)
