@@ -1,6 +1,7 @@
 -- What is left once it was found how far a step has come, and what a stopped life lost behind that was given up.
-use Rattle.std.proofs.Common.{◌≡◌, ◌⊎◌, ◌∙◌, ℕ, ◌+◌, ◌≤◌, Bool, [], refl, sym, ap, subst, inl, inr, arith}
+use Rattle.std.proofs.Common.{◌≡◌, ◌⊎◌, ◌∙◌, ℕ, ◌+◌, ◌<◌, ◌≤◌, Bool, [], refl, sym, ap, subst, inl, inr, arith}
 use Rattle.std.specs.Prelude.{IsTrue, Some, None, Ok, Err}
+use Rattle.std.proofs.lemmas.Bool.{cases_lt}
 use Rattle.std.proofs.lemmas.Option.{none-some, same_Some}
 use Rattle.shelf_model.specs.declared.fault.Failed.{Failed}
 use Rattle.shelf_model.specs.declared.file_no.FileNo.{FileNo}
@@ -22,7 +23,7 @@ use Rattle.sweep_checkpoint.specs.Loads.{Tells}
 use Rattle.sweep_checkpoint.specs.declared.going.Going.{Going}
 use Rattle.sweep_checkpoint.proofs.AsBefore.{image_before, image_before_is, image_before_same}
 use Rattle.step_going.specs.Found.{IsComeTo, IsGoingOf, IsFound, DuringFind}
-use Rattle.step_going.specs.Lost.{IsLost}
+use Rattle.step_going.specs.Lost.{IsLost, most_lost}
 use Rattle.step_going.specs.Standing.{AreSafe}
 use Rattle.step_going.proofs.GivenUp.{standing_lost, safe_lost}
 use Rattle.resumable.proofs.StepPoints.{at_local}
@@ -33,6 +34,16 @@ use Rattle.step_engine.specs.Finding.{IsOfJob, JobGoesOn, JobRests, JobStands, I
 use Rattle.step_engine.proofs.Found.{holds_throughout, stands_found, told_before, may_go_on}
 use Rattle.step_engine.proofs.Resuming.{safe_resumes_over}
 use Rattle.step_engine.proofs.RunFaults.{shelf_fine}
+
+-- a file of the step is one that was lost behind a checkpoint, or isn't
+lost_or_not : (step next : ℕ) (f : FileNo) → f.step ≡ step → IsLost step next f ⊎ (¬ IsLost step next f)
+lost_or_not step next f is = elim (cases_lt f.part next) [
+  | inl before ↦ inr (λ lost. let from = lost.from in absurd (omega (arith, before, from)))
+  | inr from ↦ elim (cases_lt f.part (next + most_lost)) [
+    | inl until ↦ inl (record { step_is = is; from = from; until = until })
+    | inr beyond ↦ inr (λ lost. let until = lost.until in absurd (omega (arith, beyond, until)))
+  ]
+]
 
 -- while the last checkpoint is found
 during_found : (step : ℕ) (old m : Moment) → DuringFind step old m → DuringGoing step old m
@@ -132,6 +143,11 @@ module _ {S : Type 0} (tells : S → Bool) (world : S → World) (counts : S →
       stands_found job number of_job (world before) (world mid) going.last (files_are before (was.content.before told_mid)) (files_are mid told_mid)
       holds (was.content.did told_mid) (last_told told_mid) (was.found told_mid)
 
+  -- reads give what they gave
+  same_found : IsTrue (tells mid) → (f : FileNo) → (file (world mid) f).bytes ≡ (file (world before) f).bytes
+  same_found told_mid f = (ran_end (world before) (world mid) (DuringFind number (now (world before)))
+      (was.content.did told_mid)).reads f
+
   -- where nothing is gated, or no runs are kept, that is all
   pub finds_all : ((c : Checkpoint) → going.last ≡ Some c → c.tables ≡ 0) → FindsGoing tells world counts number before mid (Ok going)
   finds_all without = record {
@@ -139,6 +155,7 @@ module _ {S : Type 0} (tells : S → Bool) (world : S → World) (counts : S →
     going = may_go_on number budget going enough was.going_of;
     last = last_told;
     lost = λ told_mid c some has. absurd (has (without c some));
+    untaken = λ told_mid f free none. same_found told_mid f ∙ none;
     holds = holds_first;
     stands = stands_first;
     sound = tt;
@@ -191,6 +208,14 @@ module _ {S : Type 0} (tells : S → Bool) (world : S → World) (counts : S →
       last = λ told_after. last_told (gone.before told_after);
       lost = λ told_after d is has f lost.
           empty told_after f (subst (λ (x : Checkpoint). IsLost number x.next_part f) (same_Some d c (sym is ∙ last_is)) lost);
+      untaken = λ told_after f free none.
+          let first : (file (world mid) f).bytes ≡ [] = same_found (gone.before told_after) f ∙ none in
+          elim (lost_or_not number c.next_part f free.step_is) [
+            | inl lost ↦ empty told_after f lost
+            | inr apart ↦ ap (λ (x : File). x.bytes)
+                (ran_end (world mid) (world after) (OnlyChanged (IsLost number c.next_part) (now (world mid)))
+                (gone.did told_after) f apart) ∙ first
+          ];
       holds = holds_then;
       stands = λ told_after job of_job holds.
           subst (λ last. JobStands job number last (now (world after)).folder) (sym last_is)
@@ -213,6 +238,7 @@ module _ {S : Type 0} (tells : S → Bool) (world : S → World) (counts : S →
       going = tt;
       last = tt;
       lost = tt;
+      untaken = tt;
       holds = holds_then;
       stands = tt;
       sound = λ told_after job of_job holds. refl;

@@ -27,6 +27,7 @@ use Rattle.shelf_model.specs.World.{Moment, World, now, file}
 use Rattle.run_tiers.specs.Faults.{OnlySortShelf}
 use Rattle.catalogue.specs.declared.layout.Entry.{Entry}
 use Rattle.step_work.specs.Tuples.{sweeps}
+use Rattle.sweep_core.proofs.Untaken.{none_changed}
 use Rattle.sweep_checkpoint.specs.Stops.{turns_in, shown_turns, StopsCost, ShowAtLeast}
 use Rattle.step_going.proofs.Gated.{none_gated}
 use Rattle.sound_image.specs.Files.{node_file}
@@ -42,6 +43,7 @@ use Rattle.step_engine.specs.StepFaults.{IsKindFault, IsStepFault, IsSoundFault,
 use Rattle.step_engine.proofs.EntryLaws.{for_diagram, for_nameless, diagram_entry_is, nameless_entry_is, one_turn_spent, one_within, place_step, size_is_sound}
 use Rattle.step_engine.proofs.TableLaws.{constant_nodes, variable_nodes, constant_is, variable_is, constant_form, variable_form}
 use Rattle.step_engine.proofs.Resuming.{still_empty, one_resumes}
+use Rattle.step_engine.proofs.Runs.{always_made}
 use Rattle.step_engine.proofs.Written.{made_only, changes_none}
 
 -- the calls of a step that takes one turn
@@ -123,6 +125,8 @@ module _ {S : Type 0} (tells : S → Bool) (world : S → World) (counts : S →
     fits = tt;
     entry = tt;
     made = tt;
+    untaken = tt;
+    unmade = tt;
     resumes = one_resumes tells world n text number p files_are before after simple.not_swept made_so;
     sound = λ told job is holds. subst (IsSoundFault p.step (work_of job p.step)) (sym folder) tt;
     damaged = λ told. inl (simple.only_folder (world before) e folder);
@@ -152,6 +156,11 @@ module _ {S : Type 0} (tells : S → Bool) (world : S → World) (counts : S →
       ap (file (world after)) (sym f_is) ∙ made told ∙ ap firm_file (simple.bytes_are job text p refl ready.step),
       simple.form job text p refl ready.step,
     );
+    untaken = λ told. none_changed (λ q. q ≡ node_file number) number e.parts (world before) (world after)
+        (λ q is free. let part : q.part ≡ 0 = ap (λ (x : FileNo). x.part) is in let from : e.parts ≤ q.part = free.from in
+        let parts : e.parts ≡ 3 = ap (λ (x : Entry). x.parts) e_is in absurd (omega (arith, part, from, parts)))
+        (own_file.did told);
+    unmade = λ told not. always_made p.step simple.makes not;
     resumes = one_resumes tells world n text number p files_are before after simple.not_swept made_so;
     sound = tt;
     damaged = tt;
@@ -236,6 +245,8 @@ drop_runs tells world counts n text number gone p files_are s e drop below may e
           (ap makes_diagram drop) (ap (answer_of job) drop) (ap (count_of job number) drop) small one_turn_spent (one_within job p.step));
       made = λ told job ready diagram. absurd (
           let not : makes_diagram (step_at job number).step ≡ false = ap makes_diagram (place_step job number p (Drop gone) ready.step.step_is drop) in cc);
+      untaken = λ told f free empty. empty;
+      unmade = λ told not empty. empty;
       resumes = one_resumes tells world n text number p files_are s s (ap sweeps drop) content;
       sound = tt;
       damaged = tt;

@@ -12,12 +12,16 @@ use Rattle.shelf_model.specs.declared.file_no.FileNo.{FileNo}
 use Rattle.shelf_model.specs.declared.sort_fault.SortFault.{SortFault}
 use Rattle.shelf_model.specs.declared.sort_fault.SortFault.TheVariants as sort
 use Rattle.shelf_model.specs.Faults.{Faults}
+use Rattle.shelf_model.specs.File.{File}
 use Rattle.shelf_model.specs.Folder.{AreFiles}
+use Rattle.shelf_model.specs.Moments.{OnlyChanged}
 use Rattle.shelf_model.specs.World.{World, now}
 use Rattle.shelf_model.proofs.Changing.{told_changed_more}
+use Rattle.shelf_model.proofs.Runs.{ran_end}
 use Rattle.catalogue.specs.declared.layout.Entry.{Entry}
 use Rattle.run_tiers.proofs.FaultLaws.{sort_shelf_on, sort_shelf_then}
 use Rattle.step_work.specs.Tuples.{sweeps}
+use Rattle.sweep_core.specs.Accounts.{NoneFilled}
 use Rattle.sweep_core.specs.Saving.{reads_of}
 use Rattle.sweep_checkpoint.specs.Stops.{shown_by, StopsCost}
 use Rattle.sweep_checkpoint.specs.declared.going.Going.{Going}
@@ -43,7 +47,7 @@ use Rattle.step_engine.specs.Running.{nodes_read, RunsStep}
 use Rattle.step_engine.proofs.EntryLaws.{IsSpent, for_nameless, nameless_entry_is, bit_says}
 use Rattle.step_engine.proofs.Operands.{two_given, one_given, work_given}
 use Rattle.step_engine.proofs.RunFaults.{faults_ok, fault_before, refused_then, gate_as}
-use Rattle.step_engine.proofs.Runs.{first_below, more_below, sound_fault, refused_runs, ended_runs}
+use Rattle.step_engine.proofs.Runs.{first_below, more_below, sound_fault, refused_runs, ended_runs, taken_then}
 use Rattle.step_engine.proofs.Went.{stands_as, safe_as, IsSet, Went, Swept, set_found, same_diagrams, same_gate, pays_for, parts_for, ends_for, went_then}
 
 -- what is known of a step that asks such a question
@@ -163,6 +167,16 @@ module _ {S Given : Type 0} (tells : S → Bool) (world : S → World) (counts :
       (λ told job ready diagram.
       absurd (let not : makes_diagram (step_at job number).step ≡ false =
       ap (λ (x : Planned). makes_diagram x.step) ready.step.step_is ∙ asks.no_diagram in cc))
+      (λ told. taken_then number a.next e.parts (world before) (world mid) (world after) took.from
+      (ap (λ (x : Entry). x.parts) e_is) (found.untaken (said.content.before told))
+      (subst (λ k. NoneFilled k a.next (world mid) (world after)) step_is (said.untaken told)))
+      (λ told not empty.
+      let told_mid = said.content.before told in
+      ap (λ (x : File). x.bytes)
+      (ran_end (world mid) (world after) (OnlyChanged (IsBehindNodes going.step) (now (world mid))) (said.content.did told)
+      (node_file number) (λ behind. let from = behind.from in absurd (omega (arith, from))))
+      ∙ same_diagrams tells world counts n text number p files_are asks.sweeps_is before mid after going found q.some
+      q.nodes asks.few asks.nodes told_mid number ∙ empty)
       (λ told rest pays exact.
       pays_for tells world counts n text number p files_are asks.sweeps_is before mid after going found q.some q.nodes asks.few asks.nodes
       (said.content.before told) a.turns rest pays (let called = said.calls told exact in omega (arith, called)))

@@ -16,15 +16,17 @@ use Rattle.shelf_model.specs.Faults.{Faults}
 use Rattle.shelf_model.specs.File.{firm_file}
 use Rattle.shelf_model.specs.Folder.{AreFiles}
 use Rattle.shelf_model.specs.Moments.{Ran, OnlyChanged}
-use Rattle.shelf_model.specs.World.{World, now}
+use Rattle.shelf_model.specs.World.{World, now, file}
 use Rattle.catalogue.specs.declared.layout.Entry.{Entry}
 use Rattle.run_tiers.specs.Faults.{OnlySortShelf}
 use Rattle.run_tiers.proofs.FaultLaws.{sort_shelf_on, sort_shelf_then}
 use Rattle.step_work.specs.Tuples.{joins, sweeps}
 use Rattle.node_file.specs.Canonical.{IsMade}
 use Rattle.node_reading.specs.Reading.{count_of}
+use Rattle.sweep_core.specs.Accounts.{NoneFilled}
 use Rattle.sweep_core.specs.Saving.{reads_of}
 use Rattle.sweep_core.specs.Sweeps.{IsNoDamage}
+use Rattle.sweep_core.proofs.Untaken.{none_then}
 use Rattle.sweep_checkpoint.specs.Stops.{shown_by, StopsCost}
 use Rattle.sweep_checkpoint.specs.declared.going.Going.{Going}
 use Rattle.resumable.specs.Diagrams.{DiagramGoesOn, diagram_rests}
@@ -108,6 +110,8 @@ module _ {S : Type 0} (tells : S → Bool) (world : S → World) (counts : S →
     fits = tt;
     entry = tt;
     made = tt;
+    untaken = tt;
+    unmade = tt;
     resumes = went.resumes;
     sound = sound;
     damaged = damaged;
@@ -124,6 +128,9 @@ module _ {S : Type 0} (tells : S → Bool) (world : S → World) (counts : S →
   pub ended_runs : (e : Entry) (turns : ℕ) → e.turns ≡ turns → IsEntryFor p.step number e
       → (IsTrue (tells after) → (job : Job) → IsReadyFor job n text number p (world before) → IsEntryOfStep job number e)
       → (IsTrue (tells after) → (job : Job) → IsReadyFor job n text number p (world before) → held.IsMade job number (now (world after)).folder)
+      → (IsTrue (tells after) → NoneFilled number e.parts (world before) (world after))
+      → (IsTrue (tells after) → makes_diagram p.step ≡ false → (file (world before) (node_file number)).bytes ≡ []
+      → (file (world after) (node_file number)).bytes ≡ [])
       → (IsTrue (tells after) → (rest : ℕ) → PaysRest p.step number (reads_of (world before)) rest → turns < 2 ^ 64 - 1
       → (world after).clock ≤ (world before).clock + (229 * turns + 13 + rest))
       → (IsTrue (tells after) → (spare : ℕ) → SparesParts number (reads_of (world before)) spare
@@ -133,11 +140,13 @@ module _ {S : Type 0} (tells : S → Bool) (world : S → World) (counts : S →
       → (shown ≤ turns) × ((world after).clock ≤ (world before).clock + (229 * (turns - shown) + 13 + rest)))
       → OnlySortShelf {T = Entry} (counts before) (counts after) (Ok e)
       → RunsStep tells world counts n text number p before after (Ok e)
-  ended_runs e turns turns_is fits entry made calls few_parts ends faults = record {
+  ended_runs e turns turns_is fits entry made untaken unmade calls few_parts ends faults = record {
     content = went.content;
     fits = fits;
     entry = entry;
     made = made;
+    untaken = untaken;
+    unmade = unmade;
     resumes = went.resumes;
     sound = tt;
     damaged = tt;
@@ -157,6 +166,16 @@ module _ {S : Type 0} (tells : S → Bool) (world : S → World) (counts : S →
     );
     faults = faults;
   }
+
+-- a step that makes a diagram isn't one that makes none
+pub always_made : {A : Type 0} (step : Step) → makes_diagram step ≡ true → makes_diagram step ≡ false → A
+always_made step makes not = absurd cc
+
+-- none was filled before the sweep, nor by it of those whose parts it didn't take
+pub taken_then : (number next parts : ℕ) (before mid after : World) → 3 ≤ next → parts ≡ next
+    → NoneFilled number 3 before mid → NoneFilled number next mid after → NoneFilled number parts before after
+taken_then number next parts before mid after from is first second =
+    subst (λ k. NoneFilled number k before after) (sym is) (none_then number 3 next before mid after from first second)
 
 -- a run that is refused before it sweeps
 pub first_refused : {S : Type 0} (tells : S → Bool) (world : S → World) (counts : S → Faults) (n : ℕ) (text : List ℕ) (number : ℕ) (p : Planned)
@@ -433,6 +452,10 @@ module _ {S : Type 0} (tells : S → Bool) (world : S → World) (counts : S →
       let made : IsMade n (table_by making its.given.tables) (node_file number) m.nodes (world after) =
       subst (λ k. IsMade n (table_by making its.given.tables) (node_file k) m.nodes (world after)) step_is (said.made told its.given.tables its.for).made in
       (made.file_is ∙ ap firm_file its.given.bytes_are, its.given.form made.form))
+      (λ told. taken_then number m.next e.parts (world before) (world mid) (world after) took.from
+      (ap (λ (x : Entry). x.parts) e_is) (found.untaken (said.content.before told))
+      (subst (λ k. NoneFilled k m.next (world mid) (world after)) step_is (said.untaken told)))
+      (λ told not. always_made p.step is_one.makes not)
       (λ told rest pays exact.
       pays_for tells world counts n text number p files_are is_one.sweeps_is before mid after going found 11
       (operand_nodes (making_of n sweeping going.step)) (omega arith) is_one.nodes (said.content.before told) m.turns rest pays

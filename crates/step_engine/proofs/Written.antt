@@ -11,11 +11,12 @@ use Rattle.canon_file.proofs.ConstDiagram.{no_node-const}
 use Rattle.canon_file.proofs.VarDiagram.{one_node-var}
 use Rattle.shelf_model.specs.declared.file_no.FileNo.{FileNo}
 use Rattle.shelf_model.specs.Folder.{Folder, file_in}
-use Rattle.shelf_model.specs.World.{World, now}
+use Rattle.shelf_model.specs.World.{World, now, file}
 use Rattle.shelf_model.specs.Calls.{Told}
 use Rattle.shelf_model.specs.Moments.{Stays, Ran}
 use Rattle.shelf_model.proofs.Runs.{told, told_then, ran_end, ran_joins, ran_weakens}
 use Rattle.block_stream.specs.Writes.{DuringWrite, DuringCut, Wrote, Cut}
+use Rattle.sweep_core.specs.Accounts.{NoneFilled}
 use Rattle.sound_image.specs.Files.{node_file}
 use Rattle.bool_tables.specs.declared.steps.Step.{Step}
 use Rattle.bool_tables.specs.Plans.{makes_diagram}
@@ -46,6 +47,14 @@ only_then f old mid new first second =
 
 wrote_only : (k : ℕ) (f : FileNo) (old new : World) → Wrote k f old new → Ran (OnlyFile f (now old)) old new
 wrote_only k f old new wrote = ran_weakens old new (DuringWrite f (now old)) (OnlyFile f (now old)) (λ m during. during.others) wrote.run
+
+-- no file was changed
+pub same_bytes : (f : FileNo) (old new : World) → Ran (Stays (now old)) old new → (file new f).bytes ≡ (file old f).bytes
+same_bytes f old new ran = ap (λ (folder : Folder). (file_in folder f).bytes) (ran_end old new (Stays (now old)) ran)
+
+-- and so none of the step is filled
+pub fills_none : (number next : ℕ) (old new : World) → Ran (Stays (now old)) old new → NoneFilled number next old new
+fills_none number next old new ran f free empty = same_bytes f old new ran ∙ empty
 
 module _ {S : Type 0} (tells : S → Bool) (world : S → World) where
   -- a file that was begun and then written to twice

@@ -14,7 +14,7 @@ use Rattle.file_numbers.specs.Files.{inner_part}
 use Rattle.run_tiers.specs.Faults.{OnlySortShelf}
 use Rattle.step_work.specs.Plans as plans
 use Rattle.sweep_core.specs.declared.checkpoint.Checkpoint.{Checkpoint}
-use Rattle.sweep_core.specs.Accounts.{CanBeTaken}
+use Rattle.sweep_core.specs.Accounts.{CanBeTaken, NoneFilled}
 use Rattle.sweep_checkpoint.specs.Gated.{present, last_gated}
 use Rattle.sweep_checkpoint.specs.Loads.{Tells}
 use Rattle.sweep_checkpoint.specs.declared.going.Going.{Going}
@@ -74,6 +74,9 @@ pub record FindsGoing {S : Type 0} (tells : S → Bool) (world : S → World) (c
   -- takes no part
   pub lost : IfOk result (λ going. IsTrue (tells after) → (c : Checkpoint) → going.last ≡ Some c → c.tables ≢ 0
       → (f : FileNo) → IsLost number c.next_part f → (file (world after) f).bytes ≡ [])
+  -- no file of the step is filled that its sweeps take
+  pub untaken : IfOk result (λ going. IsTrue (tells after)
+      → NoneFilled number inner_part (world before) (world after))
   -- in a folder that holds the steps before, which it does at each moment, the step stands with that checkpoint, and
   -- only a call of the folder can fail
   pub holds : IsTrue (tells after) → (job : Job) → IsOfJob job number

@@ -1,20 +1,21 @@
 -- What a run of a step does, leaves and costs.
-use Rattle.std.specs.Prelude.{◌≡◌, ℕ, ◌+◌, ◌-◌, ◌*◌, ◌/◌, ◌^◌, ◌<◌, ◌≤◌, Bool, false, IsTrue, cond, List, Result, IfOk}
+use Rattle.std.specs.Prelude.{◌≡◌, ℕ, ◌+◌, ◌-◌, ◌*◌, ◌/◌, ◌^◌, ◌<◌, ◌≤◌, Bool, false, IsTrue, cond, List, [], Result, IfOk}
 use Rattle.std.specs.Prelude.{IfErr, Some, sum_by}
 use Rattle.bool_tables.specs.declared.steps.Step.{Step}
 use Rattle.bool_tables.specs.declared.steps.Planned.{Planned}
-use Rattle.bool_tables.specs.Plans.{operands}
+use Rattle.bool_tables.specs.Plans.{operands, makes_diagram}
 use Rattle.shelf_model.specs.declared.file_no.FileNo.{FileNo}
 use Rattle.shelf_model.specs.declared.sort_fault.SortFault.{SortFault}
 use Rattle.shelf_model.specs.Calls.{Told}
 use Rattle.shelf_model.specs.Faults.{Faults}
 use Rattle.shelf_model.specs.Moments.{Ran, Throughout}
-use Rattle.shelf_model.specs.World.{Moment, World, now}
+use Rattle.shelf_model.specs.World.{Moment, World, now, file}
 use Rattle.run_tiers.specs.Faults.{OnlySortShelf}
 use Rattle.catalogue.specs.declared.layout.Entry.{Entry}
 use Rattle.step_work.specs.Tuples.{sweeps}
 use Rattle.node_reading.specs.Reading.{count_of}
 use Rattle.sweep_core.specs.declared.checkpoint.Checkpoint.{Checkpoint}
+use Rattle.sweep_core.specs.Accounts.{NoneFilled}
 use Rattle.sweep_core.specs.Saving.{reads_of}
 use Rattle.sweep_checkpoint.specs.Gated.{last_gated}
 use Rattle.sweep_checkpoint.specs.Loads.{Tells}
@@ -75,6 +76,11 @@ pub record RunsStep {S : Type 0} (tells : S → Bool) (world : S → World) (cou
       → IsReadyFor job n text number p (world before) → IsEntryOfStep job number e)
   pub made : IfOk result (λ e. IsTrue (tells after) → (job : Job)
       → IsReadyFor job n text number p (world before) → IsMade job number (now (world after)).folder)
+  -- no file of the step is filled whose part wasn't taken
+  pub untaken : IfOk result (λ e. IsTrue (tells after) → NoneFilled number e.parts (world before) (world after))
+  -- nor is the node file of a step that makes no diagram
+  pub unmade : IfOk result (λ e. IsTrue (tells after) → makes_diagram p.step ≡ false
+      → (file (world before) (node_file number)).bytes ≡ [] → (file (world after) (node_file number)).bytes ≡ [])
   -- at each moment a run can go on from what a stop leaves
   pub resumes : IsTrue (tells after) → (job : Job) → IsStepOf job n text number p
       → Holds job number (now (world before)).folder

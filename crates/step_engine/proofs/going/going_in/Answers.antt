@@ -23,6 +23,7 @@ returns-in_err-going g c =
             going = tt;
             last = tt;
             lost = tt;
+            untaken = tt;
             holds = λ told job of_job holds. holds_throughout job c.args.number of_job old new holds (said.content.did told);
             stands = tt;
             sound = λ told job of_job holds. find_is_sound job c.args.number of_job (now old).folder fault

@@ -1,4 +1,4 @@
-use Rattle.std.proofs.Common.{◌<◌, nat_lt, refl, ap, sym, subst, inl, arith}
+use Rattle.std.proofs.Common.{◌∙◌, ◌<◌, nat_lt, refl, ap, sym, subst, inl, arith}
 use Rattle.std.specs.Prelude.{IsTrue, Ok, Err}
 use Rattle.std.specs.List.{list_all}
 use Rattle.bool_tables.specs.Plans.{operands}
@@ -6,13 +6,14 @@ use Rattle.catalogue.specs.declared.layout.Entry.{Entry}
 use Rattle.shelf_model.specs.SortFaults.{handed_on}
 use Rattle.shelf_model.specs.World.{now}
 use Rattle.step_work.specs.Tuples.{sweeps}
+use Rattle.sound_image.specs.Files.{node_file}
 use Rattle.sound_image.specs.Entries.{IsEntryOfStep, kind_of}
 use Rattle.step_engine.proofs.EntryLaws.{for_nameless, size_entry_is, only_below, one_turn_spent}
 use Rattle.step_engine.proofs.OneTurn.{first_parts, one_stops, size_calls, size_fault, size_sound, size_kind, size_makes, size_reads}
 use Rattle.step_engine.proofs.Resuming.{one_resumes}
 use Rattle.step_engine.proofs.RunFaults.{shelf_faults, shelf_fine}
 use Rattle.step_engine.proofs.Runs.{handed_runs}
-use Rattle.step_engine.proofs.Written.{changes_none}
+use Rattle.step_engine.proofs.Written.{changes_none, fills_none, same_bytes}
 use Rattle.step_engine.proofs.simple.run_size.Goals as goal
 
 pub returns-in_err-nodes : goal.returns-in_err-nodes
@@ -30,6 +31,8 @@ returns-in_err-nodes g c =
             fits = tt;
             entry = tt;
             made = tt;
+            untaken = tt;
+            unmade = tt;
             resumes = one_resumes g.S.Shelf.tells g.S.Shelf.world c.args.n c.args.text.now c.args.number p g.met.S.Shelf.files_are _ _
                 (ap sweeps c.requires.kind) content;
             sound = λ told job is holds. size_sound job c.args.n c.args.number c.args.of c.args.text.now p e (g.S.Shelf.world c.args.shelf.now) c.requires.kind is below
@@ -63,6 +66,8 @@ returns g c =
             (size_entry_is job c.args.number c.args.of p found (now (g.S.Shelf.world c.args.shelf.now)).folder c.requires.step.few_steps ready.step.step_is c.requires.kind below
             (ready.holds (size_reads c.args.of p.step c.requires.kind)) (said.ok told) said.kind);
         made = λ told job ready diagram. absurd (size_makes job c.args.n c.args.number c.args.of c.args.text.now p c.requires.kind ready.step diagram);
+        untaken = λ told. fills_none c.args.number c.nameless_entry.result.parts _ _ (said.content.did told);
+        unmade = λ told not empty. same_bytes (node_file c.args.number) _ _ (said.content.did told) ∙ empty;
         resumes = one_resumes g.S.Shelf.tells g.S.Shelf.world c.args.n c.args.text.now c.args.number p g.met.S.Shelf.files_are _ _
             (ap sweeps c.requires.kind) content;
         sound = tt;
