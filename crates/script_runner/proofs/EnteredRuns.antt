@@ -175,6 +175,7 @@ earlier job lines status start old mid new stay run = record {
   all = run.all;
   emptied = run.emptied;
   emptied_last = run.emptied_last;
+  lean = run.lean;
   other = λ other.
       let refuses = run.other other in
       record {
@@ -241,6 +242,7 @@ nothing_ran job lines w = record {
   all = λ x. absurd (omega (arith, x));
   emptied = λ x. absurd (omega (arith, x));
   emptied_last = λ sound x. absurd (omega (arith, x));
+  lean = λ sound x. absurd (omega (arith, x));
   other = λ other. stood job.bytes w w other (stands w (IsStill (now w)) (record { said_is = refl; images = λ image is_image. is_image }));
   only_other = λ x. absurd (omega (arith, x));
   damaged = λ x. absurd (omega (arith, x));
@@ -264,6 +266,7 @@ ran_from job lines finish old new quiet run = record {
   all = λ zero. run.all (was_done finish zero);
   emptied = λ zero. run.emptied (was_done finish zero);
   emptied_last = λ sound zero. run.emptied_last sound (was_done finish zero);
+  lean = λ sound zero. run.lean sound (was_done finish zero);
   other = λ other. elim (run.refuses_other other).1 [
     | inl named ↦ absurd (subst IsQuiet named.1 quiet)
     | inr fault ↦ subst (λ f. RefusesOther job.bytes (status_for f) (now old) old new) (sym fault) (stood job.bytes old new other (run.refuses_other other).0)
@@ -364,6 +367,7 @@ refused_other job lines at status old mid new which run says whole = record {
   all = λ zero. absurd (elim which [ inl x ↦ omega (arith, x, zero) | inr x ↦ omega (arith, x, zero) ]);
   emptied = λ zero. absurd (elim which [ inl x ↦ omega (arith, x, zero) | inr x ↦ omega (arith, x, zero) ]);
   emptied_last = λ sound zero. absurd (elim which [ inl x ↦ omega (arith, x, zero) | inr x ↦ omega (arith, x, zero) ]);
+  lean = λ sound zero. absurd (elim which [ inl x ↦ omega (arith, x, zero) | inr x ↦ omega (arith, x, zero) ]);
   other = λ differs. record {
     at = at;
     place = has;
@@ -406,6 +410,7 @@ refused_damage job lines f at status old mid new which run says whole = record {
   all = λ zero. absurd (elim which [ inl x ↦ omega (arith, x, zero) | inr x ↦ omega (arith, x, zero) ]);
   emptied = λ zero. absurd (elim which [ inl x ↦ omega (arith, x, zero) | inr x ↦ omega (arith, x, zero) ]);
   emptied_last = λ sound zero. absurd (elim which [ inl x ↦ omega (arith, x, zero) | inr x ↦ omega (arith, x, zero) ]);
+  lean = λ sound zero. absurd (elim which [ inl x ↦ omega (arith, x, zero) | inr x ↦ omega (arith, x, zero) ]);
   other = λ differs. absurd (not_other (run.refuses_other differs).1);
   only_other = λ five. absurd (elim which [ inl x ↦ omega (arith, x, five) | inr x ↦ omega (arith, x, five) ]);
   damaged = λ ten. record {
@@ -461,6 +466,7 @@ stopped_spent job lines step status old mid new which run says whole = record {
   all = λ zero. absurd (not_zero zero);
   emptied = λ zero. absurd (not_zero zero);
   emptied_last = λ sound zero. absurd (not_zero zero);
+  lean = λ sound zero. absurd (not_zero zero);
   other = λ differs. absurd (not_other (run.refuses_other differs).1);
   only_other = λ five. absurd (not_five five);
   damaged = λ ten. absurd (not_ten ten);

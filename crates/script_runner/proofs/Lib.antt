@@ -13,6 +13,7 @@ pub mod Resting
 pub mod Needed
 pub mod RunAgain
 pub mod Taking
+pub mod Leaning
 pub mod StopLaws
 pub mod StepPaying
 pub mod LastTidied

@@ -136,6 +136,8 @@ module _ {S : Type 0} (tells : S → Bool) (world : S → World) (counts : S →
           fits = tt;
           entry = tt;
           made = tt;
+          untaken = tt;
+          unmade = tt;
           resumes = λ tells_t job step holds. absurd (not_held (aside.before tells_t) job step holds);
           sound = λ tells_t job step holds. absurd (not_held (aside.before tells_t) job step holds);
           damaged = found fault lacked;
@@ -218,6 +220,8 @@ module _ {S : Type 0} (tells : S → Bool) (world : S → World) (counts : S →
         fits = second.fits;
         entry = for_ok _ result (λ e tells_u job ready. absurd (not_ready (tells_s tells_u) job ready));
         made = for_ok _ result (λ e tells_u job ready. absurd (not_ready (tells_s tells_u) job ready));
+        untaken = for_ok _ result (λ e tells_u job step holds. absurd (not_held (tells_s tells_u) job step holds));
+        unmade = for_ok _ result (λ e tells_u job step holds. absurd (not_held (tells_s tells_u) job step holds));
         resumes = λ tells_u job step holds. absurd (not_held (tells_s tells_u) job step holds);
         sound = for_err _ result (λ fault tells_u job step holds. absurd (not_held (tells_s tells_u) job step holds));
         damaged = found_anew result second.damaged;

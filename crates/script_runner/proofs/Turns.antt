@@ -35,6 +35,7 @@ use Rattle.script_runner.specs.declared.finish.Finish.{Finish}
 use Rattle.script_runner.specs.declared.finish.Finish.TheVariants.{Done, OtherJob, FolderFault, SayFault, Damaged, RunsSpent}
 use Rattle.script_runner.specs.Text.{done_line, banner_line, ended_before, start_line, resume_line}
 use Rattle.script_runner.specs.Shapes.{IsShape, IsWholeShape}
+use Rattle.script_runner.specs.Lean.{IsLean}
 use Rattle.script_runner.specs.Running.{HasSaid, HasOtherJob, IsOther, IsDamage, RefusesFolder, IsStop, IsSpentStep, IsStill, StoodStill, MeetsDamage, MeetsSpent, AreEmptied, RunsSteps}
 use Rattle.script_runner.specs.StepRuns.{IsTaking, HoldsStep, TakesStep, IsSayStop, SaysLines}
 use Rattle.script_runner.specs.Calls.{step_calls, IsGated, IsCounted, AreCounted}
@@ -93,6 +94,7 @@ by_stop job lines finish old new run same stop goes_on names spends = record {
   all = λ e. absurd (not_done finish stop e);
   emptied = λ e. absurd (not_done finish stop e);
   emptied_last = λ sound e. absurd (not_done finish stop e);
+  lean = λ sound e. absurd (not_done finish stop e);
   other_job = λ at e. absurd (not_job finish at stop e);
   refuses_other = λ other. absurd (not_other job old same other);
   damaged = names;
@@ -127,8 +129,9 @@ to_the_end : (job : Job) (lines : List LineEnd) (old new : World) → Ongoing jo
     → (AreSound job (now old).folder → said new ≡ said old ++ text_at job lines old) → HaveCount (length job.steps) (now new).folder
     → AreEmptied job.steps (done_at old) (length job.steps) (now new).folder
     → (AreSound job (now old).folder → AreEmptied job.steps (done_at old - 1) (length job.steps) (now new).folder)
+    → (AreSound job (now old).folder → IsLean job (done_at old) (now old).folder → IsLean job (length job.steps) (now new).folder)
     → HasSaid (λ text folder. IsWholeShape job.steps lines (present (now old).folder) (present folder) text) (now old) (now new) → RunsSteps job lines Done old new
-to_the_end job lines old new run same whole all emptied last says = record {
+to_the_end job lines old new run same whole all emptied last lean says = record {
   moments = run.moments;
   stays = run.stays;
   goes_on = λ sound none. none;
@@ -137,6 +140,7 @@ to_the_end job lines old new run same whole all emptied last says = record {
   all = λ e. all;
   emptied = λ e. emptied;
   emptied_last = λ sound e. last sound;
+  lean = λ sound e. lean sound;
   other_job = λ at e. cc;
   refuses_other = λ other. absurd (not_other job old same other);
   damaged = λ f at e. cc;
@@ -182,6 +186,7 @@ module _ (job : Job) (lines : List LineEnd) (plan : IsPlan job lines) (given : L
     all = λ e. cc;
     emptied = λ e. cc;
     emptied_last = λ sound e. cc;
+    lean = λ sound e. cc;
     other_job = λ at e. cc;
     refuses_other = λ other. (stands_still given old new other.stored run, inr refl);
     damaged = λ f at e. cc;
@@ -199,6 +204,7 @@ module _ (job : Job) (lines : List LineEnd) (plan : IsPlan job lines) (given : L
     all = λ e. cc;
     emptied = λ e. cc;
     emptied_last = λ sound e. cc;
+    lean = λ sound e. cc;
     other_job = λ place e. let same : at ≡ place = cc in subst (λ k. HasOtherJob job.bytes k (present (now old).folder)) same other;
     refuses_other = λ differs. (stands_still given old new differs.stored run, inl (at, refl));
     damaged = λ f place e. cc;
@@ -225,6 +231,7 @@ module _ (job : Job) (lines : List LineEnd) (plan : IsPlan job lines) (given : L
     all = λ e. cc;
     emptied = λ e. cc;
     emptied_last = λ sound e. cc;
+    lean = λ sound e. cc;
     other_job = λ place e. cc;
     refuses_other = λ differs. absurd (differs.other damage.same);
     damaged = λ g place e.
@@ -480,12 +487,14 @@ module _ {S : Type 0} (tells : S → Bool) (world : S → World) (law : (s : S) 
       × AreEmptied job.steps (done_at (world old)) (length job.steps) (now (world t)).folder
       × HasSaid (λ text folder. IsWholeShape job.steps lines (present (now (world old)).folder) (present folder) text) (now (world old)) (now (world t))))
       → (IsTrue (tells t) → AreSound job (now (world old)).folder → AreEmptied job.steps (done_at (world old) - 1) (length job.steps) (now (world t)).folder)
+      → (IsTrue (tells t) → AreSound job (now (world old)).folder → IsLean job (done_at (world old)) (now (world old)).folder
+      → IsLean job (length job.steps) (now (world t)).folder)
       → Told tells old t (RunsSteps job lines Done (world old) (world t))
-  is_done old t so_far last = record {
+  is_done old t so_far last lean = record {
     before = so_far.before;
     did = λ tells_t.
         let both = so_far.did tells_t in
-        to_the_end job lines (world old) (world t) both.0.0 both.0.1 both.1.0 both.1.1 both.1.2 (last tells_t) both.1.3;
+        to_the_end job lines (world old) (world t) both.0.0 both.0.1 both.1.0 both.1.1 both.1.2 (last tells_t) (lean tells_t) both.1.3;
   }
 
   -- behind that what the last committed step dropped is empty

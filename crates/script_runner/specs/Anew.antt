@@ -2,6 +2,7 @@
 use Rattle.std.specs.Prelude.{◌≡◌, ◌⊎◌, ℕ, ◌+◌, ◌-◌, ◌/◌, ◌^◌, ◌<◌, ◌≤◌, Bool, false, IsTrue, List, [], Result, IfOk, IfErr}
 use Rattle.bool_tables.specs.declared.steps.Step.{Step}
 use Rattle.bool_tables.specs.declared.steps.Planned.{Planned}
+use Rattle.bool_tables.specs.Plans.{makes_diagram}
 use Rattle.shelf_model.specs.declared.file_no.FileNo.{FileNo}
 use Rattle.shelf_model.specs.declared.fault.StreamFault.TheVariants as stream
 use Rattle.shelf_model.specs.declared.sort_fault.SortFault.{SortFault}
@@ -14,10 +15,11 @@ use Rattle.run_tiers.specs.Faults.{OnlySortShelf}
 use Rattle.catalogue.specs.declared.layout.Entry.{Entry}
 use Rattle.catalogue.specs.Counts.{present}
 use Rattle.step_work.specs.Tuples.{sweeps}
+use Rattle.sweep_core.specs.Accounts.{NoneFilled}
 use Rattle.sweep_core.specs.Saving.{reads_of}
 use Rattle.sweep_checkpoint.specs.Loads.{IsLoadFault}
 use Rattle.sweep_checkpoint.specs.Stops.{StopsCost}
-use Rattle.sound_image.specs.Files.{checkpoint_gate}
+use Rattle.sound_image.specs.Files.{node_file, checkpoint_gate}
 use Rattle.sound_image.specs.Jobs.{Job}
 use Rattle.sound_image.specs.Entries.{IsEntryOfStep, work_of}
 use Rattle.sound_image.specs.Holds.{Holds, IsMade, AreResumable}
@@ -69,6 +71,13 @@ pub record MakesStep {S : Type 0} (tells : S → Bool) (world : S → World) (co
       → IsReadyFor job n text number p (world before) → IsEntryOfStep job number e)
   pub made : IfOk result (λ e. IsTrue (tells after) → (job : Job)
       → IsReadyFor job n text number p (world before) → IsMade job number (now (world after)).folder)
+  -- where the folder holds the steps before, no file of the step is filled whose part wasn't taken, nor its node file
+  -- where it makes no diagram
+  pub untaken : IfOk result (λ e. IsTrue (tells after) → (job : Job) → IsStepOf job n text number p
+      → Holds job number (now (world before)).folder → NoneFilled number e.parts (world before) (world after))
+  pub unmade : IfOk result (λ e. IsTrue (tells after) → (job : Job) → IsStepOf job n text number p
+      → Holds job number (now (world before)).folder → makes_diagram p.step ≡ false
+      → (file (world before) (node_file number)).bytes ≡ [] → (file (world after) (node_file number)).bytes ≡ [])
   pub resumes : IsTrue (tells after) → (job : Job) → IsStepOf job n text number p
       → Holds job number (now (world before)).folder
       → Throughout (world before) (world after) (λ (m : Moment). AreResumable job number m.folder)

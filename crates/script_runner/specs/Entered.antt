@@ -16,6 +16,7 @@ use Rattle.script_runner.specs.Shapes.{IsShape, IsShapeFront, AreWhole, IsWholeS
 use Rattle.diagram_list.specs.Saying.{SaysFront}
 use Rattle.script_runner.specs.Running.{IsRunning, HasSaid, IsOther, HasOtherJob, IsDamage, IsMetDamage, IsSpentStep}
 use Rattle.script_runner.specs.Running.{AreEmptied}
+use Rattle.script_runner.specs.Lean.{IsLean}
 
 -- the statuses of a run that was done, refused its folder, met a fault of the folder or of saying, or had no part
 -- number left
@@ -121,6 +122,9 @@ pub record RunsFrom (job : Job) (lines : List LineEnd) (status : ℕ) (start : M
   -- where each image was sound at first so is what the last step dropped that was committed then
   pub emptied_last : AreSound job start.folder → status ≡ 0
       → AreEmptied job.steps (count_in (present start.folder) - 1) (length job.steps) (now new).folder
+  -- and where that folder was lean it is lean: nothing is left over of any step
+  pub lean : AreSound job start.folder → status ≡ 0
+      → IsLean job (count_in (present start.folder)) start.folder → IsLean job (length job.steps) (now new).folder
   -- a folder that stores another job is refused, and with 5 it is such a one
   pub other : IsOther job.bytes (present start.folder) → RefusesOther job.bytes status start old new
   pub only_other : status ≡ 5 → IsOther job.bytes (present start.folder)

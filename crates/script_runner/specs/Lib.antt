@@ -3,6 +3,7 @@ pub mod Text
 pub mod Shapes
 pub mod Said
 pub mod Causes
+pub mod Lean
 pub mod Running
 pub mod Anew
 pub mod StepRuns

@@ -30,6 +30,7 @@ use Rattle.script_runner.specs.declared.finish.Finish.{Finish}
 use Rattle.script_runner.specs.declared.finish.Finish.TheVariants.{Done, OtherJob, FolderFault, SayFault, Damaged}
 use Rattle.script_runner.specs.declared.finish.Finish.TheVariants.{RunsSpent}
 use Rattle.script_runner.specs.Text.{ended_before, run_text}
+use Rattle.script_runner.specs.Lean.{IsLean}
 use Rattle.script_runner.specs.Shapes.{IsShape, IsShapeFront, AreWhole, IsWholeShape}
 use Rattle.script_runner.specs.Said.{whole_lines, acknowledged, said_count}
 
@@ -250,6 +251,9 @@ pub record RunsSteps (job : Job) (lines : List LineEnd) (finish : Finish) (old n
   -- where each image was sound at first so is what the last step dropped that was committed then
   pub emptied_last : AreSound job (now old).folder → finish ≡ Done
       → AreEmptied job.steps (count_in (present (now old).folder) - 1) (length job.steps) (now new).folder
+  -- and where that folder was lean it is lean
+  pub lean : AreSound job (now old).folder → finish ≡ Done
+      → IsLean job (count_in (present (now old).folder)) (now old).folder → IsLean job (length job.steps) (now new).folder
   -- another job is refused exactly where one is stored, unless a call of the folder failed, and
   -- then nothing was done
   pub other_job : (at : ℕ) → finish ≡ OtherJob at

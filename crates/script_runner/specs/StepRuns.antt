@@ -1,8 +1,7 @@
 -- What one step of a run leaves, and what saying its lines leaves.
-use Rattle.std.specs.Prelude.{◌≡◌, ◌≢◌, ℕ, ◌+◌, ◌*◌, ◌^◌, ◌<◌, ◌≤◌, IsTrue, List, [], ◌++◌, length, take, get_or}
+use Rattle.std.specs.Prelude.{◌≡◌, ℕ, ◌+◌, ◌*◌, ◌^◌, ◌<◌, ◌≤◌, IsTrue, List, [], ◌++◌, length, take, get_or}
 use Rattle.std.specs.Prelude.{Result, OnOk, IfOk, IfErr}
 use Rattle.std.specs.List.{flat_map}
-use Rattle.bool_tables.specs.declared.steps.Step.TheVariants.{Drop}
 use Rattle.bool_tables.specs.declared.steps.Planned.{Planned}
 use Rattle.bool_tables.specs.Plans.{IsWellFormed}
 use Rattle.shelf_model.specs.declared.file_no.FileNo.{FileNo}
@@ -31,6 +30,7 @@ use Rattle.script_runner.specs.declared.finish.Finish.{Finish}
 use Rattle.script_runner.specs.declared.finish.Finish.TheVariants.{Done, OtherJob, FolderFault, SayFault, Damaged}
 use Rattle.script_runner.specs.declared.finish.Finish.TheVariants.{RunsSpent}
 use Rattle.script_runner.specs.Text.{said_line}
+pub use Rattle.script_runner.specs.Lean.{NoneDrops}
 use Rattle.script_runner.specs.Shapes.{AreShown}
 use Rattle.diagram_list.specs.Saying.{SaysFront, StaysThere}
 use Rattle.script_runner.specs.Running.{OthersAre, AreEmptied, IsEntryDamage, IsMetDamage, RefusesFolder, IsStop}
@@ -85,10 +85,6 @@ pub record HasEntry (steps : List Planned) (step : ℕ) (e : Entry) (r : FileNo 
 -- a file that was empty is empty
 abbrev pub StaysEmpty : FileNo → Folder → Folder → Type 0
 StaysEmpty f old new = (file_in old f).bytes ≡ [] → (file_in new f).bytes ≡ []
-
--- none of the steps from that one on drops that diagram
-abbrev pub NoneDrops : List Planned → ℕ → ℕ → ℕ → Type 0
-NoneDrops steps from until k = (j : ℕ) → from ≤ j → j < until → (get_or steps j no_step).step ≢ Drop k
 
 -- the file of each earlier diagram that none of these steps drops is as it was
 abbrev pub KeepsDiagrams : List Planned → ℕ → ℕ → Folder → Folder → Type 0

@@ -1,16 +1,21 @@
 //! One step of a run: it is made, committed and tidied up.
-ghost use Rattle.std.specs.Prelude.{◌≡◌, ◌+◌, ◌≤◌, ◌<◌, ℕ, [], IsTrue, OnOk, IfOk, length, get_or};
+ghost use Rattle.std.specs.Prelude.{◌≡◌, ◌+◌, ◌≤◌, ◌<◌, ℕ, [], false, IsTrue, OnOk, IfOk, length, get_or};
 ghost use Rattle.bool_tables.specs.declared.steps.Step.TheVariants as variants;
+ghost use Rattle.shelf_model.specs.declared.file_no.FileNo.{FileNo};
 ghost use Rattle.shelf_model.specs.World.{now, file};
 ghost use Rattle.shelf_model.specs.Calls.{Told};
 ghost use Rattle.shelf_model.specs.Moments.{Ran};
 ghost use Rattle.shelf_model.specs.Faults.{OnlyFolder};
 ghost use Rattle.catalogue.specs.Commits.{IsReady};
 ghost use Rattle.step_work.specs.Plans.{no_step};
+ghost use Rattle.step_work.specs.Tuples.{sweeps};
 ghost use Rattle.sound_image.specs.Files.{node_file};
+ghost use Rattle.sound_image.specs.Holds.{Holds};
+ghost use Rattle.sound_image.specs.Steps.{IsBehind};
 ghost use Rattle.step_engine.specs.OneFile.{OnlyTidied};
-ghost use Rattle.script_runner.specs.Calls.{step_calls, cut_calls, IsCounted};
+ghost use Rattle.script_runner.specs.Calls.{step_calls, cut_calls, IsCounted, IsGated};
 ghost use Rattle.script_runner.specs.JobOf.{job_in};
+ghost use Rattle.script_runner.specs.Lean.{IsLean};
 ghost use Rattle.script_runner.specs.Stops.{IsPaidStep, StepPays};
 ghost use Rattle.script_runner.specs.StepRuns.{TakesStep, stopped_by};
 ghost use Rattle.script_runner.specs.Causes.{StopHasCause};
@@ -46,6 +51,12 @@ pub(crate) fn take_step<S: Shelf>(
     ensures stops { IsTrue (S.tells shelf.new) → (paid rest : ℕ)
         → IsPaidStep (job_in job.now) number gone_on paid rest (now (S.world shelf.old)).folder
         → StepPays (job_in job.now) paid rest result (S.world shelf.old) (S.world shelf.new) }
+    // a folder in which nothing is left over is so behind the step
+    ensures lean { OnOk result (IsTrue (S.tells shelf.new)
+        → Holds (job_in job.now) number (now (S.world shelf.old)).folder
+        → IsGated gone_on number (now (S.world shelf.old)).folder
+        → IsLean (job_in job.now) number (now (S.world shelf.old)).folder
+        → IsLean (job_in job.now) (number + 1) (now (S.world shelf.new)).folder) }
     ensures number { IfOk result (λ e. e.number ≡ number) }
     ensures causes { StopHasCause (S.faults shelf.old) (S.faults shelf.new) result }
 {
@@ -77,6 +88,8 @@ fn tidy_up<S: Shelf>(
         ≤ (S.world shelf.old).clock + cut_calls gone_on planned.now.step entry.now.parts }
     ensures empty { OnOk result (IsTrue (S.tells shelf.new) → (gone : ℕ) → planned.now.step ≡ variants.Drop gone →
         (file (S.world shelf.new) (node_file gone)).bytes ≡ []) }
+    ensures behind { OnOk result (IsTrue (S.tells shelf.new) → gone_on ≡ false → IsTrue (sweeps planned.now.step)
+        → (f : FileNo) → IsBehind entry.now.number entry.now.parts f → (file (S.world shelf.new) f).bytes ≡ []) }
     ensures faults { OnlyFolder (S.faults shelf.old) (S.faults shelf.new) result }
 {
     if gone_on {

@@ -5,6 +5,8 @@ use Rattle.std.specs.List.{list_all}
 use Rattle.shelf_model.specs.World.{now}
 use Rattle.shelf_model.specs.Calls.{Told}
 use Rattle.shelf_model.specs.Folder.{file_in}
+use Rattle.shelf_model.specs.Moments.{Stays}
+use Rattle.shelf_model.proofs.Runs.{at_end}
 use Rattle.catalogue.specs.Counts.{present}
 use Rattle.catalogue.proofs.Budget.{length-without_budget}
 use Rattle.sound_image.specs.Files.{node_file}
@@ -13,6 +15,7 @@ use Rattle.sound_image.proofs.AttachLaws.{none_behind_first}
 use Rattle.script_reader.specs.declared.plan.LineEnd.{LineEnd}
 use Rattle.script_reader.specs.Lines.{rise_from, shows_past}
 use Rattle.script_runner.specs.JobOf.{job_in}
+use Rattle.script_runner.specs.Lean.{IsLean}
 use Rattle.script_runner.specs.Text.{done_line}
 use Rattle.script_runner.specs.StepRuns.{SaysLines}
 use Rattle.script_runner.proofs.Standing.{IsStanding, standing_says}
@@ -20,7 +23,8 @@ use Rattle.script_runner.proofs.Tests.{rest_passes}
 use Rattle.script_runner.proofs.LineOrder.{rises_earlier, none_left, shown_in_front, front_passes}
 use Rattle.script_runner.proofs.Shown.{below_next}
 use Rattle.script_runner.proofs.RunSteps.{done_at, plan_in}
-use Rattle.script_runner.proofs.Paying.{unpaid, unpaid_few, none_unpaid}
+use Rattle.script_runner.proofs.Paying.{unpaid, unpaid_few, none_unpaid, gated_now}
+use Rattle.script_runner.proofs.Leaning.{lean_begun, lean_whole}
 use Rattle.script_runner.proofs.Beginning.{begun_gated}
 use Rattle.script_runner.proofs.Saying.{told_second}
 use Rattle.script_runner.proofs.Turns.{Turn, not_attached, refuses_job, refuses_damage, says_banner, stopped_saying, tidies_last, stops_tidying, tidying_calls, stops_step, takes_step, is_ready, made_stands, stops_lines, said_lines, says_done, is_done, emptied_at_first, emptied_on, is_counted, calls_of_one_more, calls_before_all}
@@ -104,6 +108,14 @@ loop-step-init g c =
           (c.in-Ok.ensures.answer told_mid) in
           emptied_at_first g.W.Shelf.tells g.W.Shelf.world (λ s told f. g.met.W.Shelf.files_are s told f) job c.args.job.now.lines.now plan c.in-Ok.begun.standing.done
           (drop c.count_before-before.result c.args.job.now.lines.now) _ _ _ turn told_say says.done (c.in-Ok-tidy_last.ensures.empty t) sound;
+      lean = λ t sound.
+          let told_say = c.in-Ok-tidy_last.ensures.content.before t in
+          let told_mid = c.in-Ok-say.ensures.content.before told_say in
+          let says : IsStanding job.bytes (length job.steps) c.in-Ok.begun.standing (present (now (g.W.Shelf.world c.args.station.now)).folder) =
+          standing_says c.args.job.now.bytes.now job.bytes refl (length job.steps) (present (now (g.W.Shelf.world c.args.station.now)).folder) (Ok c.in-Ok.begun.standing)
+          (c.in-Ok.ensures.answer told_mid) in
+          lean_begun job c.args.job.now.bytes.now c.in-Ok.begun.standing.done _ _ _ _ says.done (c.in-Ok.ensures.content.did told_mid)
+          (c.in-Ok-say.ensures.content.did told_say).elsewhere.folder_is (c.in-Ok-tidy_last.ensures.content.did t);
       rise = subst (λ (ls : List LineEnd). IsTrue (rise_from c.in-Ok.begun.standing.done ls)) (sym rest) c.count_before-before.ensures.rest;
       shown = subst (λ (ls : List LineEnd). IsTrue (list_all (shows_past (length c.args.job.now.steps.now)) ls)) (sym rest)
           (rest_passes (shows_past (length c.args.job.now.steps.now)) c.args.job.now.lines.now c.count_before-before.result c.args.job.now.are_lines.show_past);
@@ -278,6 +290,15 @@ loop-step-preserved g c =
           emptied_on g.W.Shelf.tells g.W.Shelf.world (λ s told f. g.met.W.Shelf.files_are s told f) job c.args.job.now.lines.now plan
           (done_at (g.W.Shelf.world c.args.station.now) - 1) c.loop-step.step e _ _ _ c.loop-step-test.true (c.in-Ok-take_step.ensures.content.did told_take)
           (c.in-Ok-say_lines.ensures.content.did t).files (invariant.emptied told_before sound);
+      lean = λ t sound first.
+          let told_take = c.in-Ok-say_lines.ensures.content.before t in
+          let told_before = c.in-Ok-take_step.ensures.content.before told_take in
+          let at = (invariant.so_far.did told_before).0 in
+          subst (IsLean job (c.loop-step.step + 1))
+          (sym (at_end _ _ (Stays (now (g.W.Shelf.world c.take_step.new.shelf))) (c.in-Ok-say_lines.ensures.content.did t).files))
+          (c.in-Ok-take_step.ensures.lean told_take (at.sound sound).holds
+          (gated_now job c.loop-step.gone_on c.loop-step.step (now (g.W.Shelf.world c.args.station.now)).folder _ plan.well_formed c.loop-step-test.true
+          at.made.later (invariant.gated told_before sound c.loop-step-test.true)) (invariant.lean told_before sound first));
       rise = subst (λ (ls : List LineEnd). IsTrue (rise_from (c.loop-step.step + 1) ls)) (sym rest) c.count_before.ensures.rest;
       shown = subst (λ (ls : List LineEnd). IsTrue (list_all (shows_past (length c.args.job.now.steps.now)) ls)) (sym rest)
           (rest_passes (shows_past (length c.args.job.now.steps.now)) c.loop-step.rest.now c.count_before.result invariant.shown);
@@ -307,6 +328,10 @@ returns-clause-content g c =
     let said = (c.in-Ok-say-2.ensures.content.did t).elsewhere in
     subst (λ folder. (file_in folder (node_file gone)).bytes ≡ []) (sym said.folder_is)
     (c.loop-step.invariant.emptied (c.in-Ok-say-2.ensures.content.before t) sound k from (omega (arith, until, all_made)) gone drops_it))
+    (λ t sound first.
+    let told_before = c.in-Ok-say-2.ensures.content.before t in
+    lean_whole job c.loop-step.step _ _ (c.loop-step.invariant.so_far.did told_before).0.upto all_made
+    (c.in-Ok-say-2.ensures.content.did t).elsewhere.folder_is (c.loop-step.invariant.lean told_before sound first))
 
 -- the calls of a run that stops before its end, and of one that comes to it
 pub returns-in-Err-Shelf-clause-calls : goal.returns-in-Err-Shelf-clause-calls

@@ -8,6 +8,7 @@ use Rattle.file_writes.specs.Writes.{pieces}
 use Rattle.sound_image.specs.Holds.{AreSound}
 use Rattle.script_runner.specs.Calls.{IsGated, AreCounted}
 use Rattle.script_runner.specs.JobOf.{job_in}
+use Rattle.script_runner.specs.Lean.{IsLean}
 use Rattle.script_runner.specs.Running.{AreEmptied}
 use Rattle.script_runner.specs.Stops.{IsPaidRun}
 use Rattle.script_runner.proofs.RunSteps.{done_at}
@@ -35,6 +36,9 @@ invariant-loop-step g l = record {
       → l.step < length l.fn.job.steps.now → IsGated l.gone_on l.step (now (g.W.Shelf.world l.fn.station)).folder;
   emptied : IsTrue (g.W.Shelf.tells l.station) → AreSound (job_in l.fn.job) (now (g.W.Shelf.world l.fn.station)).folder
       → AreEmptied l.fn.job.steps.now (done_at (g.W.Shelf.world l.fn.station) - 1) l.step (now (g.W.Shelf.world l.station)).folder;
+  lean : IsTrue (g.W.Shelf.tells l.station) → AreSound (job_in l.fn.job) (now (g.W.Shelf.world l.fn.station)).folder
+      → IsLean (job_in l.fn.job) (done_at (g.W.Shelf.world l.fn.station)) (now (g.W.Shelf.world l.fn.station)).folder
+      → IsLean (job_in l.fn.job) l.step (now (g.W.Shelf.world l.station)).folder;
   rise : IsTrue (rise_from l.step l.rest);
   shown : IsTrue (list_all (shows_past (length l.fn.job.steps.now)) l.rest);
   folder_later : (g.W.Shelf.faults l.fn.station).folder ≤ (g.W.Shelf.faults l.station).folder;

@@ -5,6 +5,7 @@ use Rattle.step_engine.specs.Simple.{MayRun}
 use Rattle.step_engine.proofs.PlanLaws.{may_run}
 use Rattle.script_runner.specs.declared.finish.Finish.TheVariants.{FolderFault}
 use Rattle.script_runner.specs.JobOf.{job_in}
+use Rattle.script_runner.proofs.Leaning.{lean_step}
 use Rattle.script_runner.proofs.StepPaying.{stopped_pays, commit_stopped, tidy_stopped, took_pays}
 use Rattle.script_runner.proofs.Taking.{few_calls, taken_calls, was_stopped, commit_failed, tidy_failed, took}
 use Rattle.script_runner.proofs.step.take_step.Goals as goal
@@ -38,6 +39,13 @@ returns-clause-content g c =
     took g.S.Shelf.tells g.S.Shelf.world g.S.Shelf.faults (λ s told f. g.met.S.Shelf.files_are s told f) (job_in c.args.job.now) c.args.number
     c.args.job.now.well_formed c.requires.within (get_or c.args.job.now.steps.now c.args.number no_step) refl may.operands_are c.in-Ok.entry _ _ c.in-Ok.ensures.makes c.requires.ready _ _
     c.in-Ok-commit.ensures.content c.in-Ok-commit.ensures.ok c.in-Ok-tidy_up.ensures.content c.in-Ok-tidy_up.ensures.empty
+
+-- behind it the folder is lean where it was
+pub returns-clause-lean : goal.returns-clause-lean
+returns-clause-lean g c = lean_step g.S.Shelf.tells g.S.Shelf.world g.S.Shelf.faults (job_in c.args.job.now)
+    c.args.job.now.well_formed c.args.number c.requires.within (get_or c.args.job.now.steps.now c.args.number no_step) refl
+    c.in-Ok.entry c.args.gone_on _ _ _ _ c.in-Ok.ensures.makes c.in-Ok-commit.ensures.content
+    c.in-Ok-tidy_up.ensures.content c.in-Ok-tidy_up.ensures.empty c.in-Ok-tidy_up.ensures.behind
 
 -- the calls, wherever it stops
 pub returns-in-Err-clause-calls : goal.returns-in-Err-clause-calls
