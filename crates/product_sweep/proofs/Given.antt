@@ -4,7 +4,7 @@ use Rattle.shelf_model.specs.declared.file_no.FileNo.{FileNo}
 use Rattle.shelf_model.specs.World.{World}
 use Rattle.bool_tables.specs.declared.steps.Bin.{Bin}
 use Rattle.sweep_core.specs.Accounts.{CanBeTaken}
-use Rattle.top_down_sweep.specs.declared.steps.StepOperation.TheVariants.{Operator}
+use Rattle.sweep_operations.specs.declared.steps.StepOperation.TheVariants.{Operator}
 use Rattle.node_file.specs.Canonical.{IsCanonicalFile}
 use Rattle.table_work.specs.Given.{Tables}
 use Rattle.table_work.specs.Tables.{operand_files, AreGivenTo}

@@ -15,9 +15,9 @@ use Rattle.table_work.specs.declared.sweep.TableSweep.{TableSweep}
 use Rattle.table_work.specs.Jobs.{TableWork, turns_of}
 use Rattle.table_work.specs.Tables.{sweep_of}
 use Rattle.top_down_sweep.specs.declared.machine.Machine.{Machine}
-use Rattle.top_down_sweep.specs.declared.place.Phase.{Phase}
-use Rattle.top_down_sweep.specs.declared.place.Phase.TheVariants as phases
-use Rattle.top_down_sweep.specs.declared.product.Product.{Product}
+use Rattle.tuple_asks.specs.declared.place.Phase.{Phase}
+use Rattle.tuple_asks.specs.declared.place.Phase.TheVariants as phases
+use Rattle.sweep_operations.specs.declared.product.Product.{Product}
 use Rattle.top_down_sweep.specs.Beginning as top
 use Rattle.top_down_sweep.specs.Calls as calls
 use Rattle.top_down_sweep.specs.Damage as damage

@@ -16,9 +16,9 @@ use Rattle.sweep_core.proofs.Leaving.{leaves_more, leaves_ok, leaves_err}
 use Rattle.table_work.specs.declared.sweep.TableSweep.{TableSweep}
 use Rattle.table_work.specs.Jobs.{TableWork, turns_of}
 use Rattle.table_work.specs.Tables.{sweep_of}
-use Rattle.top_down_sweep.specs.declared.place.Phase.{Phase}
-use Rattle.top_down_sweep.specs.declared.place.Phase.TheVariants.{Fresh, Asking, Ended}
-use Rattle.top_down_sweep.specs.declared.product.Product.{Product}
+use Rattle.tuple_asks.specs.declared.place.Phase.{Phase}
+use Rattle.tuple_asks.specs.declared.place.Phase.TheVariants.{Fresh, Asking, Ended}
+use Rattle.sweep_operations.specs.declared.product.Product.{Product}
 use Rattle.top_down_sweep.specs.declared.sweep.TopDownSweep.{TopDownSweep}
 use Rattle.top_down_sweep.specs.Beginning as top
 use Rattle.top_down_sweep.specs.Calls as calls

@@ -14,7 +14,7 @@ use Rattle.sweep_core.specs.Sweeps.{Falls, MovesOn, AtEnd, IsFirm, StaysEnded, I
 use Rattle.sweep_core.specs.declared.turn.Turn.{Turn}
 use Rattle.table_work.specs.Jobs.{TableWork, work_of_step, turns_of}
 use Rattle.table_work.specs.Tables.{sweep_of}
-use Rattle.top_down_sweep.specs.declared.product.Product.{Product}
+use Rattle.sweep_operations.specs.declared.product.Product.{Product}
 use Rattle.top_down_sweep.specs.declared.sweep.TopDownSweep.{TopDownSweep}
 use Rattle.top_down_sweep.specs.Beginning as top
 use Rattle.top_down_sweep.specs.Calls as calls

@@ -5,7 +5,7 @@ use Rattle.shelf_model.specs.World.{World}
 use Rattle.canon_file.specs.Members.{Has}
 use Rattle.table_work.specs.declared.sweep.TableSweep.{TableSweep}
 use Rattle.table_work.specs.Tables.{sweep_of}
-use Rattle.top_down_sweep.specs.declared.product.Product.{Product}
+use Rattle.sweep_operations.specs.declared.product.Product.{Product}
 use Rattle.top_down_sweep.specs.Fuel as fuel
 use Rattle.top_down_sweep.specs.Meaning.{Task, Remains, table_of}
 use Rattle.top_down_sweep.specs.Sweeps as sweeps

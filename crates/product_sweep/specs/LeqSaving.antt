@@ -14,8 +14,8 @@ use Rattle.sweep_core.specs.Sweeps.{IsNoDamage}
 use Rattle.top_down.specs.Operations.{implies}
 use Rattle.table_work.specs.Jobs.{TableWork}
 use Rattle.table_work.specs.TableSaving.{table_saving, saving_of}
-use Rattle.top_down_sweep.specs.declared.product.Product.{Product}
-use Rattle.top_down_sweep.specs.OperationWords.{product_spelling}
+use Rattle.sweep_operations.specs.declared.product.Product.{Product}
+use Rattle.sweep_operations.specs.OperationWords.{product_spelling}
 use Rattle.top_down_sweep.specs.Resumes.{top_saving}
 use Rattle.top_down_sweep.specs.Sweeps.{SweepTask}
 use Rattle.product_sweep.specs.declared.leq.LeqSweep.{LeqSweep}

@@ -4,7 +4,7 @@ use Rattle.top_down.specs.declared.tuple.Tuple.{Tuple}
 use Rattle.top_down.specs.Operations.{product_rule}
 use Rattle.top_down.specs.Rules.{Rule}
 use Rattle.top_down.specs.Tuples.{unused}
-use Rattle.top_down_sweep.specs.declared.product.Product.{Product}
+use Rattle.sweep_operations.specs.declared.product.Product.{Product}
 use Rattle.table_work.specs.declared.sweep.TableSweep.{TableSweep}
 use Rattle.table_work.specs.Jobs.{TableWork, MakesWithin}
 use Rattle.table_work.specs.Tables.{sweep_of}

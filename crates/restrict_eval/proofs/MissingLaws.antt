@@ -9,7 +9,7 @@ use Rattle.arc_diagrams.proofs.WordLaws.{level-terminal}
 use Rattle.arc_diagrams.proofs.CanonArcs.{side_of}
 use Rattle.node_file.specs.Nodes.{identifier_at, IsNodeAt, HasTrailer}
 use Rattle.node_reading.specs.Reading.{count_of}
-use Rattle.top_down_sweep.proofs.OperandReading.{node_identifier}
+use Rattle.tuple_asks.proofs.OperandReading.{node_identifier}
 use Rattle.node_reading.specs.Missing.{IsNamed, IsMissedAt}
 use Rattle.restrict_eval.specs.Eval.{IsPath, IsPassed, side_by}
 

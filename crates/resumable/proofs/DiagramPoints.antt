@@ -8,7 +8,7 @@ use Rattle.step_going.specs.Standing.{IsLastOf, IsLocal, IsFromLast}
 use Rattle.sweep_core.specs.declared.checkpoint.Checkpoint.{Checkpoint}
 use Rattle.copy_sweep.specs.Resumes.{copy_saving}
 use Rattle.top_down_sweep.specs.declared.beginning.OperandFiles.{OperandFiles}
-use Rattle.top_down_sweep.specs.declared.steps.StepOperation.{StepOperation}
+use Rattle.sweep_operations.specs.declared.steps.StepOperation.{StepOperation}
 use Rattle.table_work.specs.Given.{Tables}
 use Rattle.table_work.specs.Tables.{work_of}
 use Rattle.reduce_sweep.specs.Resumes.{reduce_saving}

@@ -25,15 +25,15 @@ use Rattle.sweep_checkpoint.specs.Going.{GoesOn}
 use Rattle.step_going.specs.Standing.{IsLastOf}
 use Rattle.copy_sweep.specs.Resumes.{copy_saving, pieces_of, one_copy}
 use Rattle.copy_sweep.specs.Resumes as copies
-use Rattle.top_down_sweep.specs.declared.ask.Ask.{Ask}
-use Rattle.top_down_sweep.specs.declared.place.Asking.{Asking}
+use Rattle.tuple_asks.specs.declared.ask.Ask.{Ask}
+use Rattle.tuple_asks.specs.declared.place.Asking.{Asking}
 use Rattle.top_down_sweep.specs.Meaning.{Task}
 use Rattle.top_down_sweep.specs.Resumes as machines
 use Rattle.top_down_sweep.specs.Resumes.{OnOperand, OnInner, OnEnds, OnRun, queue_tables, Shows, GoesOnAt, top_saving}
 use Rattle.top_down_sweep.specs.ResumeLaws.{one_machine}
-use Rattle.top_down_sweep.specs.Operations.{rule_of, begins_of}
+use Rattle.sweep_operations.specs.Operations.{rule_of, begins_of}
 use Rattle.top_down_sweep.specs.declared.beginning.OperandFiles.{OperandFiles}
-use Rattle.top_down_sweep.specs.declared.steps.StepOperation.{StepOperation}
+use Rattle.sweep_operations.specs.declared.steps.StepOperation.{StepOperation}
 use Rattle.table_work.specs.TableSaving.{table_saving}
 use Rattle.table_work.specs.Given.{Tables}
 use Rattle.table_work.specs.Tables.{work_of}

@@ -15,13 +15,16 @@ use Rattle.copy_sweep.specs.declared.copy.CopyTask.{CopyTask}
 use Rattle.copy_sweep.specs.Resumes.{copy_saving, one_copy}
 use Rattle.copy_sweep.specs.Resumes as copies
 use Rattle.top_down_sweep.specs.declared.beginning.OperandFiles.{OperandFiles}
-use Rattle.top_down_sweep.specs.declared.start.Files.{Files}
-use Rattle.top_down_sweep.specs.declared.steps.StepOperation.{StepOperation}
+use Rattle.tuple_asks.specs.declared.files.Files.{Files}
+use Rattle.sweep_operations.specs.declared.steps.StepOperation.{StepOperation}
 use Rattle.top_down_sweep.specs.ResumeLaws.{one_machine}
 use Rattle.top_down_sweep.specs.Resumes as top_down
-use Rattle.top_down_sweep.specs.Resumes.{saved_files, table_in, HasQueue, Fits, IsOfRuns}
+use Rattle.tuple_asks.specs.Resuming.{saved_files}
+use Rattle.tuple_asks.specs.SavedRules.{table_in, IsOfRuns}
+use Rattle.top_down_sweep.specs.Resumes.{HasQueue, Fits}
 use Rattle.top_down_sweep.specs.Resumes.{OnOperand, OnInner, OnEnds, OnRun}
-use Rattle.top_down_sweep.specs.Sweeps.{SweepTask, IsRead}
+use Rattle.top_down_sweep.specs.Sweeps.{SweepTask}
+use Rattle.tuple_asks.specs.Operands.{IsRead}
 use Rattle.table_work.specs.Given.{Tables}
 use Rattle.table_work.specs.Jobs.{TableWork}
 use Rattle.product_sweep.specs.LeqSaving.{product_words}

@@ -5,7 +5,7 @@ use Rattle.shelf_model.specs.declared.file_no.FileNo.{FileNo}
 use Rattle.sweep_core.specs.declared.checkpoint.Checkpoint.{Checkpoint}
 use Rattle.copy_sweep.specs.Resumes.{copy_saving}
 use Rattle.copy_sweep.specs.Resumes as copies
-use Rattle.top_down_sweep.specs.Operations.{rule_of, begins_of}
+use Rattle.sweep_operations.specs.Operations.{rule_of, begins_of}
 use Rattle.top_down_sweep.specs.Resumes as top_down
 use Rattle.top_down_sweep.specs.ResumeLaws as top_down_laws
 use Rattle.table_work.specs.TableSaving.{table_stays}

@@ -15,8 +15,8 @@ use Rattle.step_work.specs.Plans.{step_at, table_at}
 use Rattle.sweep_core.specs.declared.checkpoint.Checkpoint.{Checkpoint}
 use Rattle.table_work.specs.Given.{Tables}
 use Rattle.top_down_sweep.specs.declared.beginning.OperandFiles.{OperandFiles}
-use Rattle.top_down_sweep.specs.declared.steps.StepOperation.{StepOperation}
-use Rattle.top_down_sweep.specs.declared.steps.StepOperation.TheVariants as operations
+use Rattle.sweep_operations.specs.declared.steps.StepOperation.{StepOperation}
+use Rattle.sweep_operations.specs.declared.steps.StepOperation.TheVariants as operations
 use Rattle.resumable.specs.Diagrams.{DiagramGoesOn, diagram_rests}
 use Rattle.resumable.specs.Kinds.{files_of, tables_of, StepGoesOn, RestsOn}
 use Rattle.resumable.specs.Resumable.{GoesOnAt}

@@ -16,10 +16,10 @@ use Rattle.sweep_checkpoint.specs.Going.{GoesOn}
 use Rattle.copy_sweep.specs.declared.copy.CopyTask.{CopyTask}
 use Rattle.copy_sweep.specs.Resumes.{copy_saving}
 use Rattle.top_down_sweep.specs.declared.beginning.OperandFiles.{OperandFiles}
-use Rattle.top_down_sweep.specs.declared.steps.StepOperation.{StepOperation}
-use Rattle.top_down_sweep.specs.declared.steps.StepOperation.TheVariants.{Choice}
-use Rattle.top_down_sweep.specs.Operations.{rule_of, begins_of, step_of}
-use Rattle.top_down_sweep.specs.OperationWords.{step_spelling}
+use Rattle.sweep_operations.specs.declared.steps.StepOperation.{StepOperation}
+use Rattle.sweep_operations.specs.declared.steps.StepOperation.TheVariants.{Choice}
+use Rattle.sweep_operations.specs.Operations.{rule_of, begins_of, step_of}
+use Rattle.sweep_operations.specs.OperationWords.{step_spelling}
 use Rattle.top_down_sweep.specs.Resumes.{top_saving}
 use Rattle.top_down_sweep.specs.Sweeps.{SweepTask}
 use Rattle.table_work.specs.Given.{Tables, used_by}

@@ -11,7 +11,7 @@ use Rattle.sweep_core.specs.declared.checkpoint.Checkpoint.{Checkpoint}
 use Rattle.step_work.specs.Plans.{table_at}
 use Rattle.table_work.specs.Given.{Tables}
 use Rattle.top_down_sweep.specs.declared.beginning.OperandFiles.{OperandFiles}
-use Rattle.top_down_sweep.specs.declared.steps.StepOperation.TheVariants as operations
+use Rattle.sweep_operations.specs.declared.steps.StepOperation.TheVariants as operations
 use Rattle.resumable.specs.Diagrams.{DiagramGoesOn, diagram_rests}
 use Rattle.resumable.specs.Answers.{ComparisonGoesOn, EvaluationGoesOn, ImplicationGoesOn}
 use Rattle.resumable.specs.Answers.{comparison_rests, evaluation_rests, implication_rests}

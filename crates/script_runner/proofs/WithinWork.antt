@@ -18,8 +18,8 @@ use Rattle.sweep_checkpoint.specs.Stops.{turns_in, shown_turns}
 use Rattle.sweep_checkpoint.proofs.PointTurns.{point_turns}
 use Rattle.table_work.specs.Given.{Tables}
 use Rattle.top_down_sweep.specs.declared.beginning.OperandFiles.{OperandFiles}
-use Rattle.top_down_sweep.specs.declared.steps.StepOperation.{StepOperation}
-use Rattle.top_down_sweep.specs.declared.steps.StepOperation.TheVariants as operations
+use Rattle.sweep_operations.specs.declared.steps.StepOperation.{StepOperation}
+use Rattle.sweep_operations.specs.declared.steps.StepOperation.TheVariants as operations
 use Rattle.resumable.specs.Diagrams.{DiagramGoesOn, work_by}
 use Rattle.resumable.specs.Kinds.{files_of, tables_of, StepGoesOn}
 use Rattle.resumable.specs.Resumable.{StartsOrGoesOn}

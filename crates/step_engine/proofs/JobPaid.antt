@@ -5,7 +5,7 @@ use Rattle.bool_tables.specs.declared.steps.Step.TheVariants.{Const, Var, Pair, 
 use Rattle.bool_tables.specs.declared.steps.Planned.{Planned}
 use Rattle.shelf_model.specs.declared.file_no.FileNo.{FileNo}
 use Rattle.top_down_sweep.specs.declared.beginning.OperandFiles.{OperandFiles}
-use Rattle.top_down_sweep.specs.declared.steps.StepOperation.{StepOperation}
+use Rattle.sweep_operations.specs.declared.steps.StepOperation.{StepOperation}
 use Rattle.step_sweeps.specs.Given.{Tables}
 use Rattle.step_work.specs.Plans as plans
 use Rattle.sweep_core.specs.declared.checkpoint.Checkpoint.{Checkpoint}

@@ -27,7 +27,7 @@ use Rattle.step_work.specs.Tuples.{joins}
 use Rattle.step_work.specs.Works.{work_for, nodes_of}
 use Rattle.step_work.proofs.SameTuples.{LeadAlike, same_count}
 use Rattle.node_file.specs.Canonical.{IsCanonicalFile}
-use Rattle.top_down_sweep.specs.declared.steps.StepOperation.TheVariants as operations
+use Rattle.sweep_operations.specs.declared.steps.StepOperation.TheVariants as operations
 use Rattle.top_down_sweep.specs.declared.beginning.OperandFiles.{OperandFiles}
 use Rattle.resumable.specs.Diagrams.{DiagramGoesOn, diagram_rests}
 use Rattle.resumable.specs.Kinds.{StepGoesOn, RestsOn}

@@ -37,8 +37,8 @@ use Rattle.sound_image.specs.Entries.{IsEntryOfStep, kind_of, answer_of, work_of
 use Rattle.sound_image.specs.Holds.{Holds}
 use Rattle.sound_image.specs.Holds as held
 use Rattle.top_down_sweep.specs.declared.beginning.OperandFiles.{OperandFiles}
-use Rattle.top_down_sweep.specs.declared.steps.StepOperation.{StepOperation}
-use Rattle.top_down_sweep.specs.declared.steps.StepOperation.TheVariants as operations
+use Rattle.sweep_operations.specs.declared.steps.StepOperation.{StepOperation}
+use Rattle.sweep_operations.specs.declared.steps.StepOperation.TheVariants as operations
 use Rattle.step_sweeps.specs.declared.diagram.MadeDiagram.{MadeDiagram}
 use Rattle.step_sweeps.specs.declared.task.Making.{Making}
 use Rattle.step_sweeps.specs.Damage.{IsDamagedBy, MissesNamed, AsksOwn, MissesIn, IsArcsFault}

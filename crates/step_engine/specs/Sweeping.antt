@@ -3,7 +3,7 @@ use Rattle.std.specs.Prelude.{Option, Some, None}
 use Rattle.bool_tables.specs.declared.steps.Step.{Step}
 use Rattle.bool_tables.specs.declared.steps.Step.TheVariants.{Const, Var, Pair, Ite, Quantify, Restrict, Drop, Same}
 use Rattle.bool_tables.specs.declared.steps.Step.TheVariants.{Leq, Eval, Size}
-use Rattle.top_down_sweep.specs.declared.steps.StepOperation.TheVariants as operations
+use Rattle.sweep_operations.specs.declared.steps.StepOperation.TheVariants as operations
 pub use Rattle.resumable.specs.Kinds.{files_of}
 use Rattle.step_engine.specs.declared.sweeping.Sweeping.{Sweeping}
 

@@ -11,7 +11,9 @@ use Rattle.sweep_core.specs.declared.checkpoint.Checkpoint.{Checkpoint}
 use Rattle.sweep_core.specs.Carries.{IsBehindPoints, OnlyCutBehind}
 use Rattle.top_down_sweep.specs.declared.beginning.OperandFiles.{OperandFiles}
 use Rattle.top_down_sweep.specs.ResumeLaws.{one_machine}
-use Rattle.top_down_sweep.specs.Resumes.{HasQueue, IsOfRuns, table_in, Fits, Names, RestsOn, OnOperand, OnInner, OnEnds, OnRun, saved_files}
+use Rattle.top_down_sweep.specs.Resumes.{HasQueue, Fits, Names, RestsOn, OnOperand, OnInner, OnEnds, OnRun}
+use Rattle.tuple_asks.specs.SavedRules.{IsOfRuns, table_in}
+use Rattle.tuple_asks.specs.Resuming.{saved_files}
 use Rattle.resumable.specs.Diagrams.{arcs_of}
 use Rattle.step_sweeps.specs.Given.{AreEarlier}
 

@@ -30,10 +30,12 @@ use Rattle.sweep_core.proofs.Untaken.{none_changed}
 use Rattle.step_work.specs.Works.{work_for}
 use Rattle.top_down_sweep.specs.Beginning as top
 use Rattle.top_down_sweep.specs.Beginning.{files_from, after_two}
-use Rattle.top_down_sweep.specs.Resumes.{RestsOn, Names, Blames, reading_calls, saved_files}
+use Rattle.top_down_sweep.specs.Resumes.{RestsOn, Names, Blames, reading_calls}
+use Rattle.tuple_asks.specs.Resuming.{saved_files}
 use Rattle.top_down_sweep.specs.ResumeLaws.{one_machine, apart}
-use Rattle.top_down_sweep.specs.declared.start.Files.{Files}
-use Rattle.top_down_sweep.specs.Sweeps.{SweepTask, IsRead, IsMade, variables_of}
+use Rattle.tuple_asks.specs.declared.files.Files.{Files}
+use Rattle.top_down_sweep.specs.Sweeps.{SweepTask, IsMade, variables_of}
+use Rattle.tuple_asks.specs.Operands.{IsRead}
 use Rattle.top_down_sweep.specs.Waiting.{AreApart}
 use Rattle.top_down_sweep.proofs.Makings.{apart_from}
 use Rattle.table_work.specs.Tables.{operand_files}

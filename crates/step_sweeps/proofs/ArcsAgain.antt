@@ -22,11 +22,13 @@ use Rattle.sweep_core.specs.Carries.{OnlyCutBehind}
 use Rattle.sweep_core.specs.Saving.{IsOfStep, reads_of}
 use Rattle.sweep_core.specs.Sweeps.{IsNoDamage}
 use Rattle.sweep_core.specs.Tables.{records_named}
-use Rattle.top_down_sweep.specs.declared.start.Files.{Files}
-use Rattle.top_down_sweep.specs.declared.steps.StepOperation.{StepOperation}
+use Rattle.tuple_asks.specs.declared.files.Files.{Files}
+use Rattle.sweep_operations.specs.declared.steps.StepOperation.{StepOperation}
 use Rattle.top_down_sweep.specs.ResumeLaws.{one_machine}
-use Rattle.top_down_sweep.specs.Resumes.{saved_files, Names, RestsOn, Fits}
-use Rattle.top_down_sweep.specs.Sweeps.{SweepTask, IsMade, IsRead, files_of, task_of}
+use Rattle.tuple_asks.specs.Resuming.{saved_files}
+use Rattle.top_down_sweep.specs.Resumes.{Names, RestsOn, Fits}
+use Rattle.top_down_sweep.specs.Sweeps.{SweepTask, IsMade, files_of, task_of}
+use Rattle.tuple_asks.specs.Operands.{IsRead}
 use Rattle.table_work.specs.declared.sweep.TableSweep.{TableSweep}
 use Rattle.table_work.specs.Jobs.{TableWork}
 use Rattle.table_work.specs.Tables.{sweep_of, work_of}

@@ -16,8 +16,8 @@ use Rattle.sweep_core.specs.Carries.{OnlyCutBehind}
 use Rattle.sweep_core.specs.Saving.{IsOfStep, reads_of}
 use Rattle.sweep_core.specs.Sweeps.{IsNoDamage}
 use Rattle.sweep_core.specs.Tables.{records_named}
-use Rattle.top_down_sweep.specs.declared.steps.StepOperation.{StepOperation}
-use Rattle.top_down_sweep.specs.Operations.{rule_of, begins_of}
+use Rattle.sweep_operations.specs.declared.steps.StepOperation.{StepOperation}
+use Rattle.sweep_operations.specs.Operations.{rule_of, begins_of}
 use Rattle.top_down_sweep.specs.Resumes.{Names, RestsOn, Fits, Blames}
 use Rattle.top_down_sweep.specs.Sweeps.{SweepTask, task_of}
 use Rattle.table_work.specs.declared.sweep.TableSweep.{TableSweep}

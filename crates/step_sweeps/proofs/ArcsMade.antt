@@ -24,12 +24,13 @@ use Rattle.sweep_core.specs.Saving.{reads_of}
 use Rattle.sweep_core.specs.Sweeps.{IsNoDamage}
 use Rattle.arc_file.specs.declared.unreduced.Unreduced.{Unreduced}
 use Rattle.top_down_sweep.specs.declared.beginning.OperandFiles.{OperandFiles}
-use Rattle.top_down_sweep.specs.declared.start.Files.{Files}
-use Rattle.top_down_sweep.specs.declared.steps.StepOperation.{StepOperation}
-use Rattle.top_down_sweep.specs.declared.steps.StepOperation.TheVariants.{Operator, Choice, Quantifier, Restriction}
+use Rattle.tuple_asks.specs.declared.files.Files.{Files}
+use Rattle.sweep_operations.specs.declared.steps.StepOperation.{StepOperation}
+use Rattle.sweep_operations.specs.declared.steps.StepOperation.TheVariants.{Operator, Choice, Quantifier, Restriction}
 use Rattle.top_down_sweep.specs.Calls.{IsTrusted}
-use Rattle.top_down_sweep.specs.Knowing.{FileBytes, bytes_in}
-use Rattle.top_down_sweep.specs.Operations.{rule_of, begins_of}
+use Rattle.tuple_asks.specs.Knowing.{FileBytes}
+use Rattle.top_down_sweep.specs.Knowing.{bytes_in}
+use Rattle.sweep_operations.specs.Operations.{rule_of, begins_of}
 use Rattle.top_down_sweep.specs.Sweeps.{SweepTask, HasMade, files_of, parts_of, task_of}
 use Rattle.top_down_sweep.specs.Tasks.{AreArcFiles}
 use Rattle.top_down_sweep.specs.Waiting.{AreApart}

@@ -2,9 +2,11 @@
 use Rattle.std.proofs.Common.{◌≡◌, ◌∙◌, ℕ, ◌+◌, ◌^◌, ◌≤◌, List, length, ap, sym, subst, inl, inr, arith}
 use Rattle.shelf_model.specs.declared.file_no.FileNo.{FileNo}
 use Rattle.sweep_core.specs.declared.checkpoint.Checkpoint.{Checkpoint}
-use Rattle.top_down_sweep.specs.declared.start.Files.{Files}
+use Rattle.tuple_asks.specs.declared.files.Files.{Files}
 use Rattle.top_down_sweep.specs.ResumeLaws.{one_machine}
-use Rattle.top_down_sweep.specs.Resumes.{KeepsRules, Fits, Names, RestsOn, IsRest, OnOperand, OnInner, OnEnds, OnRun, saved_files}
+use Rattle.tuple_asks.specs.SavedRules.{KeepsRules}
+use Rattle.top_down_sweep.specs.Resumes.{Fits, Names, RestsOn, IsRest, OnOperand, OnInner, OnEnds, OnRun}
+use Rattle.tuple_asks.specs.Resuming.{saved_files}
 use Rattle.top_down_sweep.specs.Sweeps.{SweepTask, IsMade}
 use Rattle.resumable.proofs.MadeFronts.{AreThere}
 

@@ -22,7 +22,7 @@ use Rattle.sweep_core.specs.declared.checkpoint.Checkpoint.{Checkpoint}
 use Rattle.sweep_core.specs.Saving.{reads_of}
 use Rattle.sweep_core.specs.Sweeps.{IsNoDamage}
 use Rattle.top_down_sweep.specs.declared.beginning.OperandFiles.{OperandFiles}
-use Rattle.top_down_sweep.specs.declared.steps.StepOperation.{StepOperation}
+use Rattle.sweep_operations.specs.declared.steps.StepOperation.{StepOperation}
 use Rattle.top_down_sweep.specs.ResumeLaws as laws
 use Rattle.top_down_sweep.specs.Sweeps.{task_of}
 use Rattle.table_work.specs.declared.sweep.TableSweep.{TableSweep}

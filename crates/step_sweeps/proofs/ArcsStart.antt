@@ -22,11 +22,12 @@ use Rattle.sweep_checkpoint.specs.Stops.{SamePoints}
 use Rattle.sweep_core.specs.Saving.{IsOfStep, IsMadePart}
 use Rattle.sweep_core.proofs.Untaken.{none_changed}
 use Rattle.top_down_sweep.specs.declared.beginning.OperandFiles.{OperandFiles}
-use Rattle.top_down_sweep.specs.declared.start.Files.{Files}
-use Rattle.top_down_sweep.specs.declared.steps.StepOperation.{StepOperation}
+use Rattle.tuple_asks.specs.declared.files.Files.{Files}
+use Rattle.sweep_operations.specs.declared.steps.StepOperation.{StepOperation}
 use Rattle.top_down_sweep.specs.Beginning.{files_from, after_two}
-use Rattle.top_down_sweep.specs.Operations.{rule_of, begins_of}
-use Rattle.top_down_sweep.specs.Sweeps.{IsMade, IsRead, files_of}
+use Rattle.sweep_operations.specs.Operations.{rule_of, begins_of}
+use Rattle.top_down_sweep.specs.Sweeps.{IsMade, files_of}
+use Rattle.tuple_asks.specs.Operands.{IsRead}
 use Rattle.table_work.specs.declared.sweep.TableSweep.{TableSweep}
 use Rattle.table_work.specs.Tables.{sweep_of, work_of, StartsTable, AreGivenTo}
 use Rattle.resumable.specs.Diagrams.{arcs_of, diagram_rests}

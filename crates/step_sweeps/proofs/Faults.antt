@@ -11,15 +11,18 @@ use Rattle.shelf_model.specs.World.{World, file}
 use Rattle.sweep_core.specs.declared.checkpoint.Checkpoint.{Checkpoint}
 use Rattle.sweep_core.specs.Sweeps.{IsNoDamage}
 use Rattle.node_reading.specs.Reading.{IsDamagedNode, IsTrailerFault}
-use Rattle.top_down_sweep.specs.declared.ask.Member.{Member}
+use Rattle.tuple_asks.specs.declared.ask.Member.{Member}
 use Rattle.top_down_sweep.specs.declared.beginning.OperandFiles.{OperandFiles}
 use Rattle.top_down_sweep.specs.declared.machine.Machine.{Machine}
-use Rattle.top_down_sweep.specs.declared.start.Files.{Files}
+use Rattle.tuple_asks.specs.declared.files.Files.{Files}
 use Rattle.node_reading.specs.Missing.{IsAbsent, IsKnown}
-use Rattle.top_down_sweep.specs.Damage.{IsReadDamage, IsStartFault, IsMachineDamage}
-use Rattle.top_down_sweep.specs.Knowing.{bytes_in, KnowsMember, StaysKnown}
-use Rattle.top_down_sweep.specs.Members.{is_node}
-use Rattle.top_down_sweep.specs.Resumes.{Blames, IsOperandFault, OfFirst, OfSecond, OfThird, OfArcs}
+use Rattle.tuple_asks.specs.Damage.{IsReadDamage, IsStartFault}
+use Rattle.top_down_sweep.specs.Damage.{IsMachineDamage}
+use Rattle.top_down_sweep.specs.Knowing.{bytes_in}
+use Rattle.tuple_asks.specs.Knowing.{KnowsMember, StaysKnown}
+use Rattle.tuple_asks.specs.Members.{is_node}
+use Rattle.top_down_sweep.specs.Resumes.{Blames}
+use Rattle.tuple_asks.specs.Resuming.{IsOperandFault, OfFirst, OfSecond, OfThird, OfArcs}
 use Rattle.top_down_sweep.specs.Sweeps.{files_in}
 use Rattle.top_down_sweep.specs.Waiting.{AreApart}
 use Rattle.step_sweeps.specs.Damage.{IsDamagedBy, MissesAsked, IsOperandsFault}

@@ -24,8 +24,8 @@ use Rattle.room_products.specs.declared.join.Joined.{Joined}
 use Rattle.room_products.specs.Joined.{IsOperandOf}
 use Rattle.step_sweeps.specs.declared.diagram.MadeDiagram.{MadeDiagram}
 use Rattle.step_sweeps.specs.declared.task.Making.{Making}
-use Rattle.top_down_sweep.specs.declared.steps.StepOperation.{StepOperation}
-use Rattle.top_down_sweep.specs.declared.steps.StepOperation.TheVariants.{Operator}
+use Rattle.sweep_operations.specs.declared.steps.StepOperation.{StepOperation}
+use Rattle.sweep_operations.specs.declared.steps.StepOperation.TheVariants.{Operator}
 use Rattle.step_sweeps.specs.Given.{Tables, AreEarlier, made_by, nodes_by}
 use Rattle.step_sweeps.specs.Made.{node_file}
 use Rattle.step_sweeps.specs.Makes.{IsGiven, table_by, nodes_for, work_for}

@@ -8,8 +8,8 @@ use Rattle.shelf_model.specs.World.{World, file}
 use Rattle.node_reading.specs.Missing.{IsAbsent, IsKnown, IsMissedAt}
 use Rattle.node_reading.specs.Reading.{IsDamagedNode, IsTrailerFault}
 use Rattle.top_down_sweep.specs.declared.beginning.OperandFiles.{OperandFiles}
-use Rattle.top_down_sweep.specs.declared.steps.StepOperation.{StepOperation}
-use Rattle.top_down_sweep.specs.declared.steps.StepOperation.TheVariants.{Operator, Choice, Quantifier, Restriction}
+use Rattle.sweep_operations.specs.declared.steps.StepOperation.{StepOperation}
+use Rattle.sweep_operations.specs.declared.steps.StepOperation.TheVariants.{Operator, Choice, Quantifier, Restriction}
 
 -- the file has no trailer for n variables where one has to stand, a record is that of no node that may stand there or
 -- isn't in order, or its bytes miss a node at that place

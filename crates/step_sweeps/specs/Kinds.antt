@@ -6,13 +6,13 @@ use Rattle.copy_sweep.specs.declared.copy.CopyTask.{CopyTask}
 use Rattle.copy_sweep.specs.Copies as copies
 use Rattle.copy_sweep.specs.Resumes as saved_copies
 use Rattle.copy_sweep.specs.Resumes.{copy_saving}
-use Rattle.top_down_sweep.specs.declared.steps.StepOperation.{StepOperation}
+use Rattle.sweep_operations.specs.declared.steps.StepOperation.{StepOperation}
 use Rattle.top_down_sweep.specs.Beginning as top_down
 use Rattle.top_down_sweep.specs.Calls.{IsInStep, IsTrusted}
 use Rattle.top_down_sweep.specs.Damage as arcs
 use Rattle.top_down_sweep.specs.Fuel.{fuel_of}
 use Rattle.top_down_sweep.specs.Making.{accounts_along}
-use Rattle.top_down_sweep.specs.Operations.{rule_of, begins_of}
+use Rattle.sweep_operations.specs.Operations.{rule_of, begins_of}
 use Rattle.top_down_sweep.specs.Resumes as saved_arcs
 use Rattle.top_down_sweep.specs.Resumes.{top_saving}
 use Rattle.top_down_sweep.specs.Sweeps.{SweepTask, whole_task, accounts}

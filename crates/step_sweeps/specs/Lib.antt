@@ -1,4 +1,4 @@
-pub use Rattle.top_down_sweep.specs.Operations
+pub use Rattle.sweep_operations.specs.Operations
 pub mod Given
 pub mod Made
 pub mod Going

@@ -7,7 +7,7 @@ use Rattle.copied_diagrams.specs.declared.way.Way.{Way}
 use Rattle.copied_diagrams.specs.Pairs.{IsOf, AreTrailersOf}
 use Rattle.copied_diagrams.specs.Ways.{LeadsTo}
 use Rattle.step_sweeps.specs.declared.task.Making.{Making}
-use Rattle.top_down_sweep.specs.declared.steps.StepOperation.TheVariants.{Operator}
+use Rattle.sweep_operations.specs.declared.steps.StepOperation.TheVariants.{Operator}
 use Rattle.step_sweeps.specs.Given.{Tables}
 use Rattle.step_sweeps.specs.Makes.{IsGiven, table_by, nodes_for}
 

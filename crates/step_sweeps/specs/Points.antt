@@ -3,7 +3,7 @@ use Rattle.std.specs.Prelude.{◌≡◌, ℕ, List}
 use Rattle.shelf_model.specs.declared.file_no.FileNo.{FileNo}
 use Rattle.file_numbers.specs.Files.{inner_part, inner_file, ends_file}
 use Rattle.sweep_core.specs.declared.checkpoint.Checkpoint.{Checkpoint}
-use Rattle.top_down_sweep.specs.declared.start.Files.{Files}
+use Rattle.tuple_asks.specs.declared.files.Files.{Files}
 use Rattle.top_down_sweep.specs.Resumes as arcs
 use Rattle.product_sweep.specs.LeqSaving.{product_words}
 use Rattle.resumable.specs.Answers.{two_files}

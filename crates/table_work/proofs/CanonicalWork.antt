@@ -11,8 +11,8 @@ use Rattle.top_down.specs.Rules.{Rule}
 use Rattle.top_down_laws.specs.Operations.{canon_diagrams}
 use Rattle.top_down_laws.specs.Readings.{Diagrams, targets_in}
 use Rattle.top_down_laws.specs.Remains.{IsMet}
-use Rattle.top_down_sweep.specs.declared.start.Files.{Files}
-use Rattle.top_down_sweep.specs.declared.steps.StepOperation.TheVariants.{Operator, Choice, Quantifier, Restriction}
+use Rattle.tuple_asks.specs.declared.files.Files.{Files}
+use Rattle.sweep_operations.specs.declared.steps.StepOperation.TheVariants.{Operator, Choice, Quantifier, Restriction}
 use Rattle.node_file.specs.Canonical.{IsCanonicalFile}
 use Rattle.top_down_sweep.specs.Tasks.{AreCanonicalFiles, IsTaskFor, ProductOnFiles, ChoiceOnFiles, QuantifyOnFiles, RestrictOnFiles}
 use Rattle.top_down_sweep.specs.Turns.{AllMet, nodes_of}

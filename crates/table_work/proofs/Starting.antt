@@ -9,11 +9,11 @@ use Rattle.sweep_core.specs.Sweeps.{IsNoDamage}
 use Rattle.top_down.specs.declared.tuple.Tuple.{Tuple}
 use Rattle.top_down.specs.Rules.{Rule}
 use Rattle.top_down_sweep.specs.declared.beginning.OperandFiles.{OperandFiles}
-use Rattle.top_down_sweep.specs.declared.steps.StepOperation.{StepOperation}
+use Rattle.sweep_operations.specs.declared.steps.StepOperation.{StepOperation}
 use Rattle.top_down_sweep.specs.declared.sweep.TopDownSweep.{TopDownSweep}
 use Rattle.top_down_sweep.specs.Beginning.{files_from, Starts}
 use Rattle.top_down_sweep.specs.Meaning.{Task, IsTaskOn, Remains}
-use Rattle.top_down_sweep.specs.Operations.{rule_of, begins_of, step_of, IsWithin}
+use Rattle.sweep_operations.specs.Operations.{rule_of, begins_of, step_of, IsWithin}
 use Rattle.top_down_sweep.specs.Turns.{Work, nodes_of, left_of}
 use Rattle.top_down_sweep.proofs.Makings.{apart_from, starts_err}
 use Rattle.table_work.specs.declared.sweep.TableSweep.{TableSweep}

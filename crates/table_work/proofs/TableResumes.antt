@@ -15,7 +15,7 @@ use Rattle.sweep_core.specs.Saving.{Saving}
 use Rattle.sweep_core.specs.Sweeps.{IsNoDamage}
 use Rattle.top_down.specs.declared.tuple.Tuple.{Tuple}
 use Rattle.top_down.specs.Rules.{Rule}
-use Rattle.top_down_sweep.specs.declared.start.Files.{Files}
+use Rattle.tuple_asks.specs.declared.files.Files.{Files}
 use Rattle.top_down_sweep.specs.declared.sweep.TopDownSweep.{TopDownSweep}
 use Rattle.top_down_sweep.specs.Beginning.{IsReady}
 use Rattle.top_down_sweep.specs.Making.{accounts_along}

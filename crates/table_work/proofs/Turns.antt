@@ -7,8 +7,8 @@ use Rattle.sweep_core.specs.Sweeps.{Falls, MovesOn}
 use Rattle.sweep_core.specs.declared.turn.Turn.{Turn}
 use Rattle.sweep_core.specs.declared.turn.Turn.TheVariants.{More, Ended}
 use Rattle.top_down_sweep.specs.declared.machine.Machine.{Machine}
-use Rattle.top_down_sweep.specs.declared.place.Phase.{Phase}
-use Rattle.top_down_sweep.specs.declared.place.Phase.TheVariants as phases
+use Rattle.tuple_asks.specs.declared.place.Phase.{Phase}
+use Rattle.tuple_asks.specs.declared.place.Phase.TheVariants as phases
 use Rattle.top_down_sweep.specs.Fuel.{fuel_at}
 use Rattle.top_down_sweep.specs.Turns.{left_at}
 

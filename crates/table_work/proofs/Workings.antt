@@ -12,7 +12,7 @@ use Rattle.sweep_core.specs.Sweeps.{Falls, MovesOn, IsNoDamage}
 use Rattle.sweep_core.specs.declared.turn.Turn.{Turn}
 use Rattle.top_down.specs.declared.tuple.Tuple.{Tuple}
 use Rattle.top_down.specs.Rules.{Rule}
-use Rattle.top_down_sweep.specs.declared.start.Files.{Files}
+use Rattle.tuple_asks.specs.declared.files.Files.{Files}
 use Rattle.top_down_sweep.specs.declared.sweep.TopDownSweep.{TopDownSweep}
 use Rattle.top_down_sweep.specs.Fuel.{fuel_of}
 use Rattle.top_down_sweep.specs.Meaning.{Task, IsTaskOn, IsMadeWhere, Remains}

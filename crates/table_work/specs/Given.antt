@@ -2,8 +2,8 @@
 use Rattle.std.specs.Prelude.{◌≡◌, ℕ, Bool, List, [], ◌∷◌}
 use Rattle.shelf_model.specs.World.{World}
 use Rattle.top_down_sweep.specs.declared.beginning.OperandFiles.{OperandFiles}
-use Rattle.top_down_sweep.specs.declared.steps.StepOperation.{StepOperation}
-use Rattle.top_down_sweep.specs.declared.steps.StepOperation.TheVariants.{Operator, Choice, Quantifier, Restriction}
+use Rattle.sweep_operations.specs.declared.steps.StepOperation.{StepOperation}
+use Rattle.sweep_operations.specs.declared.steps.StepOperation.TheVariants.{Operator, Choice, Quantifier, Restriction}
 use Rattle.node_file.specs.Canonical.{IsCanonicalFile}
 
 -- the tables of three diagrams

@@ -11,10 +11,10 @@ use Rattle.sweep_core.specs.Sweeps.{IsNoDamage}
 use Rattle.top_down.specs.declared.tuple.Tuple.{Tuple}
 use Rattle.top_down.specs.Rules.{Rule}
 use Rattle.top_down_sweep.specs.declared.beginning.OperandFiles.{OperandFiles}
-use Rattle.top_down_sweep.specs.declared.steps.StepOperation.{StepOperation}
+use Rattle.sweep_operations.specs.declared.steps.StepOperation.{StepOperation}
 use Rattle.top_down_sweep.specs.declared.sweep.TopDownSweep.{TopDownSweep}
 use Rattle.top_down_sweep.specs.Beginning.{after_two, files_from, Begun, Starts}
-use Rattle.top_down_sweep.specs.Operations.{step_of}
+use Rattle.sweep_operations.specs.Operations.{step_of}
 use Rattle.top_down_sweep.specs.Sweeps.{variables_of}
 use Rattle.table_work.specs.declared.sweep.TableSweep.{TableSweep}
 use Rattle.table_work.specs.Given.{Tables, used_by, AreGiven}

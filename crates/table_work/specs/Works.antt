@@ -8,10 +8,10 @@ use Rattle.step_work.specs.Works as steps
 use Rattle.top_down.specs.declared.tuple.Tuple.{Tuple}
 use Rattle.top_down.specs.Rules.{Rule}
 use Rattle.top_down_sweep.specs.declared.beginning.OperandFiles.{OperandFiles}
-use Rattle.top_down_sweep.specs.declared.start.Files.{Files}
-use Rattle.top_down_sweep.specs.declared.steps.StepOperation.{StepOperation}
+use Rattle.tuple_asks.specs.declared.files.Files.{Files}
+use Rattle.sweep_operations.specs.declared.steps.StepOperation.{StepOperation}
 use Rattle.top_down_sweep.specs.Meaning.{table_of, IsTaskOn}
-use Rattle.top_down_sweep.specs.Operations.{rule_of, begins_of, step_of, IsWithin}
+use Rattle.sweep_operations.specs.Operations.{rule_of, begins_of, step_of, IsWithin}
 use Rattle.top_down_sweep.specs.Turns.{Work, nodes_of}
 use Rattle.top_down_sweep.specs.Waiting.{AreApart}
 use Rattle.table_work.specs.Given.{Tables, used_by, AreGiven}

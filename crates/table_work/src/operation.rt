@@ -3,8 +3,8 @@ use top_down_sweep::{Choice, Operation, Product, Quantified, Restricted, StepOpe
 /// An operation that a step is, by which the table is known that it makes.
 pub trait TableOperation: Operation {
     ghost use Rattle.std.specs.Prelude.{◌≡◌};
-    ghost use Rattle.top_down_sweep.specs.Operations.{rule_of, begins_of};
-    ghost use Rattle.top_down_sweep.specs.declared.steps.StepOperation.{StepOperation};
+    ghost use Rattle.sweep_operations.specs.Operations.{rule_of, begins_of};
+    ghost use Rattle.sweep_operations.specs.declared.steps.StepOperation.{StepOperation};
 
     /// The operation among those that a step may be.
     ghost step: { Self → StepOperation };
@@ -26,7 +26,7 @@ impl TableOperation for StepOperation {
 
 impl TableOperation for Product {
     ghost use Rattle.std.specs.Prelude.{refl};
-    ghost use Rattle.top_down_sweep.specs.declared.steps.StepOperation.TheVariants as steps;
+    ghost use Rattle.sweep_operations.specs.declared.steps.StepOperation.TheVariants as steps;
 
     ghost step = { λ o. steps.Operator o.op };
 
@@ -37,7 +37,7 @@ impl TableOperation for Product {
 
 impl TableOperation for Choice {
     ghost use Rattle.std.specs.Prelude.{refl};
-    ghost use Rattle.top_down_sweep.specs.declared.steps.StepOperation.TheVariants as steps;
+    ghost use Rattle.sweep_operations.specs.declared.steps.StepOperation.TheVariants as steps;
 
     ghost step = { λ o. steps.Choice };
 
@@ -48,7 +48,7 @@ impl TableOperation for Choice {
 
 impl TableOperation for Quantified {
     ghost use Rattle.std.specs.Prelude.{refl};
-    ghost use Rattle.top_down_sweep.specs.declared.steps.StepOperation.TheVariants as steps;
+    ghost use Rattle.sweep_operations.specs.declared.steps.StepOperation.TheVariants as steps;
 
     ghost step = { λ o. steps.Quantifier o.kind o.variable };
 
@@ -59,7 +59,7 @@ impl TableOperation for Quantified {
 
 impl TableOperation for Restricted {
     ghost use Rattle.std.specs.Prelude.{refl};
-    ghost use Rattle.top_down_sweep.specs.declared.steps.StepOperation.TheVariants as steps;
+    ghost use Rattle.sweep_operations.specs.declared.steps.StepOperation.TheVariants as steps;
 
     ghost step = { λ o. steps.Restriction o.variable o.value };
 

@@ -1,7 +1,7 @@
 //! The starts of the sweeps that have one operation each.
 ghost use Rattle.std.specs.Prelude.{◌≤◌, ◌<◌, length};
 ghost use Rattle.table_work.specs.Tables.{StartsTable, operand_files};
-ghost use Rattle.top_down_sweep.specs.declared.steps.StepOperation.TheVariants as steps;
+ghost use Rattle.sweep_operations.specs.declared.steps.StepOperation.TheVariants as steps;
 
 use crate::TableSweep;
 use bool_tables::{Bin, Quant};

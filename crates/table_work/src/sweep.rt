@@ -21,7 +21,7 @@ pub struct TableSweep<'r, O> {
 impl<'r, O: TableOperation> TableSweep<'r, O> {
     ghost use Rattle.std.specs.Prelude.{◌≡◌, ◌≤◌, IfOk, length};
     ghost use Rattle.table_work.specs.Tables.{StartsTable, sweep_of};
-    ghost use Rattle.top_down_sweep.specs.Operations.{IsWithin};
+    ghost use Rattle.sweep_operations.specs.Operations.{IsWithin};
 
     /// Begins an operation on the files of diagrams of `n` variables, which may be one file. The next two parts are its
     /// files of arcs, and those behind them are for its queue.

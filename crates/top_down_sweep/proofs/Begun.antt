@@ -19,17 +19,20 @@ use Rattle.top_down.specs.declared.tuple.Tuple.{Tuple}
 use Rattle.top_down.specs.Rules.{Rule}
 use Rattle.top_down_sweep.specs.Meaning.{Task}
 use Rattle.top_down_sweep.specs.declared.machine.Machine.{Machine}
-use Rattle.top_down_sweep.specs.declared.place.Asking.{Asking}
-use Rattle.top_down_sweep.specs.declared.place.Place.{Place}
-use Rattle.top_down_sweep.specs.declared.place.Phase.{Phase}
-use Rattle.top_down_sweep.specs.declared.saved.SavedMachine.{SavedMachine}
-use Rattle.top_down_sweep.specs.declared.start.Files.{Files}
+use Rattle.tuple_asks.specs.declared.place.Asking.{Asking}
+use Rattle.tuple_asks.specs.declared.place.Place.{Place}
+use Rattle.tuple_asks.specs.declared.place.Phase.{Phase}
+use Rattle.tuple_asks.specs.declared.saved.SavedMachine.{SavedMachine}
+use Rattle.tuple_asks.specs.declared.files.Files.{Files}
 use Rattle.top_down_sweep.specs.Calls.{IsStepAt, IsMachineInStep}
-use Rattle.top_down_sweep.specs.Rebuilds.{saved_place, phase_at}
-use Rattle.top_down_sweep.specs.Resumes.{Holds, saved_files, KeepsRules, Fits, GoesOn, StandsFor, Names, NamesAll, operand_calls, reading_calls}
+use Rattle.tuple_asks.specs.Resuming.{saved_place, phase_at}
+use Rattle.top_down_sweep.specs.Resumes.{Holds, Fits, GoesOn, StandsFor, Names, NamesAll, reading_calls}
+use Rattle.tuple_asks.specs.Resuming.{saved_files, operand_calls}
+use Rattle.tuple_asks.specs.SavedRules.{KeepsRules}
 use Rattle.top_down_sweep.specs.ResumeLaws.{one_machine}
-use Rattle.top_down_sweep.specs.Saved.{machine_spelling}
-use Rattle.top_down_sweep.specs.Sweeps.{SweepTask, IsMade, IsRead}
+use Rattle.tuple_asks.specs.Saved.{machine_spelling}
+use Rattle.top_down_sweep.specs.Sweeps.{SweepTask, IsMade}
+use Rattle.tuple_asks.specs.Operands.{IsRead}
 
 -- the words are those of one machine and one operation
 pub one_kept : {O : Type 0} (o : Ghosts O) → ((x : O) → o.is_value x → length (o.words x) ≡ o.count)

@@ -20,8 +20,8 @@ use Rattle.sweep_core.specs.Tables as core
 use Rattle.top_down.specs.declared.tuple.Tuple.{Tuple}
 use Rattle.top_down.specs.Rules.{Rule}
 use Rattle.top_down_sweep.specs.declared.machine.Machine.{Machine}
-use Rattle.top_down_sweep.specs.declared.saved.SavedMachine.{SavedMachine}
-use Rattle.top_down_sweep.specs.declared.start.Files.{Files}
+use Rattle.tuple_asks.specs.declared.saved.SavedMachine.{SavedMachine}
+use Rattle.tuple_asks.specs.declared.files.Files.{Files}
 use Rattle.top_down_sweep.specs.declared.sweep.TopDownSweep.{TopDownSweep}
 use Rattle.top_down_sweep.specs.Calls.{SameTask, IsInStep, IsTrusted}
 use Rattle.top_down_sweep.specs.Knowing.{bytes_in}
@@ -32,9 +32,11 @@ use Rattle.top_down_sweep.specs.Fuel.{weight, machine_fuel}
 use Rattle.top_down_sweep.specs.Meaning.{Task, IsTaskOn, Remains}
 use Rattle.top_down_sweep.specs.Rebuilds.{saved_machine}
 use Rattle.top_down_sweep.specs.ResumeLaws.{one_machine, first_names}
-use Rattle.top_down_sweep.specs.Resumes.{Holds, queue_tables, parts_at, KeepsRules, HasQueue, Fits, IsRest, RestsOn, StandsFor}
-use Rattle.top_down_sweep.specs.Saved.{machine_spelling}
-use Rattle.top_down_sweep.specs.Sweeps.{files_in, IsMade, IsRead, IsSoundMachine}
+use Rattle.top_down_sweep.specs.Resumes.{Holds, queue_tables, parts_at, HasQueue, Fits, IsRest, RestsOn, StandsFor}
+use Rattle.tuple_asks.specs.SavedRules.{KeepsRules}
+use Rattle.tuple_asks.specs.Saved.{machine_spelling}
+use Rattle.top_down_sweep.specs.Sweeps.{files_in, IsMade, IsSoundMachine}
+use Rattle.tuple_asks.specs.Operands.{IsRead}
 use Rattle.top_down_sweep.specs.Turns.{Work, left_of}
 use Rattle.top_down_sweep.proofs.OperandsStay.{saved_on}
 use Rattle.top_down_sweep.proofs.Restoring.{named_run}

@@ -26,12 +26,12 @@ use Rattle.sweep_core.proofs.Untaken.{stays_empty, spilled_empty}
 use Rattle.top_down.specs.declared.tuple.Tuple.{Tuple}
 use Rattle.top_down.specs.Rules.{Rule}
 use Rattle.top_down_sweep.specs.declared.machine.Machine.{Machine}
-use Rattle.top_down_sweep.specs.declared.ask.Ask.{Ask}
-use Rattle.top_down_sweep.specs.declared.place.Place.{Place}
+use Rattle.tuple_asks.specs.declared.ask.Ask.{Ask}
+use Rattle.tuple_asks.specs.declared.place.Place.{Place}
 use Rattle.top_down_sweep.specs.declared.sweep.TopDownSweep.{TopDownSweep}
 use Rattle.top_down_sweep.specs.Sweeps.{IsMade, files_in, task_in, parts_of, IsServed, machine_accounts, Refuses, Refused}
 use Rattle.sweep_core.specs.Sweeps.{IsNoDamage}
-use Rattle.top_down_sweep.specs.declared.operand.Operands.{Operands}
+use Rattle.tuple_asks.specs.declared.operand.Operands.{Operands}
 use Rattle.top_down_sweep.specs.Damage.{IsMachineDamage}
 use Rattle.top_down_sweep.specs.Calls.{SameTask, Does}
 

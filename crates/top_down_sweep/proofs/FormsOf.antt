@@ -18,16 +18,16 @@ use Rattle.top_down_laws.specs.Forms as forms
 use Rattle.top_down_laws.specs.Readings as readings
 use Rattle.top_down_laws.specs.Remains as laws
 use Rattle.top_down_laws.specs.Laws.{IsNext}
-use Rattle.top_down_sweep.specs.declared.ask.Member.{Member}
-use Rattle.top_down_sweep.specs.declared.ask.Ask.{Ask}
-use Rattle.top_down_sweep.specs.declared.operand.Operands.{Operands}
-use Rattle.top_down_sweep.specs.declared.place.Numbered.{Numbered}
-use Rattle.top_down_sweep.specs.declared.place.Asking.{Asking}
-use Rattle.top_down_sweep.specs.Items.{ask_cmp}
-use Rattle.top_down_sweep.specs.ItemLaws.{ask_order}
+use Rattle.tuple_asks.specs.declared.ask.Member.{Member}
+use Rattle.tuple_asks.specs.declared.ask.Ask.{Ask}
+use Rattle.tuple_asks.specs.declared.operand.Operands.{Operands}
+use Rattle.tuple_asks.specs.declared.place.Numbered.{Numbered}
+use Rattle.tuple_asks.specs.declared.place.Asking.{Asking}
+use Rattle.tuple_asks.specs.Items.{ask_cmp}
+use Rattle.tuple_asks.specs.ItemLaws.{ask_order}
 use Rattle.top_down_laws.specs.Forms.{least}
-use Rattle.top_down_sweep.specs.Members.{wants, filled, want, all_filled, all_waiting, is_node}
-use Rattle.top_down_sweep.specs.Soundness.{identifier, answers, known, next_number, next_numbered, same_member}
+use Rattle.tuple_asks.specs.Members.{wants, filled, want, all_filled, all_waiting, is_node}
+use Rattle.tuple_asks.specs.Soundness.{identifier, answers, known, next_number, next_numbered, same_member}
 use Rattle.top_down_sweep.specs.Meaning.{row_of, form_of, waiting_of, numbered_of}
 use Rattle.top_down_sweep.specs.Changes.{side_asks, goal_below}
 use Rattle.top_down_sweep.proofs.Holding.{ask_total}

@@ -15,12 +15,12 @@ use Rattle.sweep_core.specs.declared.turn.Turn.TheVariants as turns
 use Rattle.sweep_core.specs.Sweeps.{Falls}
 use Rattle.level_queue.specs.declared.queue.LevelQueue.{LevelQueue}
 use Rattle.level_queue.specs.Queues.{shown, last_of, held, IsNoLess, AnswersNoLess, IsReached}
-use Rattle.top_down_sweep.specs.declared.ask.Ask.{Ask}
-use Rattle.top_down_sweep.specs.declared.ask.Member.{Member}
-use Rattle.top_down_sweep.specs.Items.{ask_words, IsAsk, ask_cmp}
-use Rattle.top_down_sweep.specs.ItemLaws.{ask_order, same_ask, ask_fits}
-use Rattle.top_down_sweep.specs.declared.place.Phase.{Phase}
-use Rattle.top_down_sweep.specs.declared.place.Phase.TheVariants.{Fresh, Asking, Ended}
+use Rattle.tuple_asks.specs.declared.ask.Ask.{Ask}
+use Rattle.tuple_asks.specs.declared.ask.Member.{Member}
+use Rattle.tuple_asks.specs.Items.{ask_words, IsAsk, ask_cmp}
+use Rattle.tuple_asks.specs.ItemLaws.{ask_order, same_ask, ask_fits}
+use Rattle.tuple_asks.specs.declared.place.Phase.{Phase}
+use Rattle.tuple_asks.specs.declared.place.Phase.TheVariants.{Fresh, Asking, Ended}
 use Rattle.top_down_sweep.specs.declared.machine.Machine.{Machine}
 use Rattle.top_down_sweep.specs.Sweeps.{IsServed, IsAsking}
 use Rattle.top_down_sweep.specs.Fuel.{continued, rank_of, asks_behind, unread, weight, fuel_at, machine_fuel}

@@ -1,6 +1,8 @@
 -- What waits, and what was read of the operands, from call to call.
-use Rattle.std.proofs.Common.{◌≡◌, ℕ, ◌≤◌, ◌<◌, ◌∙◌, Bool, true, false, List, [], ◌∷◌, All, refl, sym, subst, ap, inl, inr, arith}
-use Rattle.std.specs.Prelude.{◌⊎◌, Option, Some, None, Result, Ok, Err, IfSome, IfOk, IfErr, OnOk, IsTrue, get_or, ◌||◌}
+use Rattle.std.proofs.Common.{◌≡◌, ℕ, ◌≤◌, ◌<◌, ◌∙◌, Bool, true, false, List, [], ◌∷◌, All, refl, sym, subst, ap, inl}
+use Rattle.std.proofs.Common.{inr, arith}
+use Rattle.std.specs.Prelude.{◌⊎◌, Option, Some, None, Result, Ok, Err, IfSome, IfOk, IfErr, OnOk, IsTrue, get_or}
+use Rattle.std.specs.Prelude.{◌||◌}
 use Rattle.std.specs.List.Sorted.{IsSorted}
 use Rattle.std.specs.Ordering.{nat_cmp, ordering_then, is_lt, MatchOrdering}
 use Rattle.std.specs.declared.cmp.Ordering.{Ordering}
@@ -16,7 +18,6 @@ use Rattle.shelf_model.specs.declared.file_no.FileNo.{FileNo}
 use Rattle.shelf_model.specs.declared.sort_fault.SortFault.{SortFault}
 use Rattle.shelf_model.specs.declared.sort_fault.SortFault.TheVariants.{Shelf, Damaged, RunsSpent}
 use Rattle.shelf_model.specs.File.{File}
-use Rattle.shelf_model.specs.Folder.{Folder, file_in}
 use Rattle.shelf_model.specs.Calls.{Told}
 use Rattle.shelf_model.specs.Moments.{Ran, Stays}
 use Rattle.shelf_model.specs.World.{World, now, file}
@@ -35,23 +36,29 @@ use Rattle.sweep_core.proofs.Leaving.{taken_before}
 use Rattle.node_file.specs.declared.reader.NodeReader.{NodeReader}
 use Rattle.node_reading.specs.Reading.{bytes_of, IsReading}
 use Rattle.node_reading.proofs.NodeReading.{still_reading}
-use Rattle.top_down_sweep.specs.declared.ask.Ask.{Ask}
-use Rattle.top_down_sweep.specs.declared.ask.Member.{Member}
-use Rattle.top_down_sweep.specs.declared.operand.Operand.{Operand}
-use Rattle.top_down_sweep.specs.declared.operand.Operands.{Operands}
-use Rattle.top_down_sweep.specs.declared.place.Place.{Place}
+use Rattle.tuple_asks.specs.declared.ask.Ask.{Ask}
+use Rattle.tuple_asks.specs.declared.ask.Member.{Member}
+use Rattle.tuple_asks.specs.declared.operand.Operand.{Operand}
+use Rattle.tuple_asks.specs.declared.operand.Operands.{Operands}
+use Rattle.tuple_asks.specs.declared.place.Place.{Place}
 use Rattle.top_down_sweep.specs.declared.machine.Machine.{Machine}
-use Rattle.top_down_sweep.specs.declared.start.Files.{Files}
-use Rattle.top_down_sweep.specs.Items.{ask_words, IsAsk, member_cmp, members_cmp, ask_cmp}
-use Rattle.top_down_sweep.specs.Sweeps.{files_in, IsMade, IsServed, IsOperand, AreOperands, IsTakenTo}
-use Rattle.top_down_sweep.specs.Waiting.{Waits, IsReadTo, AreReadTo, Fits, IsApart, AreApart, AreReading, HasNoHands, AreBytesOf, KnowsAsk, Holds, HoldsSome, HoldsFirst}
+use Rattle.tuple_asks.specs.declared.files.Files.{Files}
+use Rattle.tuple_asks.specs.Items.{ask_words, IsAsk, member_cmp, members_cmp, ask_cmp}
+use Rattle.top_down_sweep.specs.Sweeps.{files_in, IsMade, IsServed, IsTakenTo}
+use Rattle.tuple_asks.specs.Operands.{IsOperand, AreOperands}
+use Rattle.top_down_sweep.specs.Waiting.{Waits, IsApart, AreApart}
+use Rattle.tuple_asks.specs.Operands.{IsReadTo, AreReadTo, Fits, AreReading, HasNoHands}
+use Rattle.top_down_sweep.specs.Waiting.{AreBytesOf, KnowsAsk, Holds, HoldsSome, HoldsFirst}
 use Rattle.top_down.specs.declared.tuple.Tuple.{Tuple}
 use Rattle.top_down.specs.Rules.{Rule}
-use Rattle.top_down_sweep.specs.Knowing.{FileBytes, bytes_in, KnowsMembers, KnowsBelow, KnowsHands, StaysKnown}
-use Rattle.top_down_sweep.specs.Members.{is_node}
-use Rattle.top_down_sweep.specs.Damage.{IsReadDamage, IsMachineDamage}
+use Rattle.tuple_asks.specs.Knowing.{FileBytes, KnowsMembers, KnowsBelow, KnowsHands, StaysKnown}
+use Rattle.top_down_sweep.specs.Knowing.{bytes_in}
+use Rattle.tuple_asks.specs.Members.{is_node}
+use Rattle.tuple_asks.specs.Damage.{IsReadDamage}
+use Rattle.top_down_sweep.specs.Damage.{IsMachineDamage}
 use Rattle.top_down_sweep.specs.Calls.{KeepsAsks}
 use Rattle.top_down_sweep.proofs.OwnRuns.{serves_past}
+use Rattle.tuple_asks.proofs.Staying.{looked_same}
 
 -- each file apart from what is written stays
 abbrev pub SameApart : Files → ℕ → World → World → Type 0
@@ -72,11 +79,6 @@ apart_spilled m after old new past spilled f apart =
     ap (λ (x : File). x.bytes) (ran_end old new (OnlyTaken m.parts after (now old)) spilled f
     (λ taken. let early : f.part < 3 = apart.no_part taken.step_is in let from : m.parts.next
     ≤ f.part = taken.from in absurd (omega (arith, early, from, past))))
-
-pub looked_same : (old new : World) → Ran (Stays (now old)) old new → (f : FileNo)
-    → (file new f).bytes ≡ (file old f).bytes
-looked_same old new ran f = ap (λ (d : Folder). (file_in d f).bytes)
-    (ran_end old new (Stays (now old)) ran)
 
 -- a reader has read its file as it is
 still : (r : NodeReader) (old new : World) → bytes_of r new ≡ bytes_of r old → IsReading r old

@@ -1,6 +1,7 @@
 -- What the operands' files know is kept by each call: of the pointers that an ask names, and of those that come of them.
-use Rattle.std.proofs.Common.{◌≡◌, ℕ, zero, suc, ◌-◌, ◌/◌, ◌<◌, ◌∙◌, Bool, true, false, cond, List, [], length, refl, sym, subst, ap, inl, inr, arith}
-use Rattle.std.specs.Prelude.{◌⊎◌, Option, Some, None, Result, IfSome, IsTrue, slice_index, ◌==◌, ◌&&◌}
+use Rattle.std.proofs.Common.{◌≡◌, ℕ, zero, suc, ◌-◌, ◌/◌, ◌<◌, ◌∙◌, Bool, true, false, cond, List, [], length, refl}
+use Rattle.std.proofs.Common.{sym, subst, ap, inl, inr, arith}
+use Rattle.std.specs.Prelude.{◌⊎◌, Option, Some, None, Result, IfSome, IsTrue, ◌==◌, ◌&&◌}
 use Rattle.rec_words.specs.declared.node.Node.{Node}
 use Rattle.shelf_model.specs.declared.file_no.FileNo.{FileNo}
 use Rattle.shelf_model.specs.declared.sort_fault.SortFault.{SortFault}
@@ -8,7 +9,6 @@ use Rattle.shelf_model.specs.Faults.{Faults}
 use Rattle.shelf_model.specs.World.{World, now, file}
 use Rattle.shelf_model.proofs.Runs.{ran_end}
 use Rattle.node_file.specs.declared.reader.NodeReader.{NodeReader}
-use Rattle.node_file.specs.Nodes.{IsNodeAt}
 use Rattle.node_file.specs.Readers.{trailer_of}
 use Rattle.node_reading.specs.Missing.{IsKnown}
 use Rattle.node_reading.specs.Reading.{bytes_of, count_of, IsReading}
@@ -18,20 +18,25 @@ use Rattle.level_queue.specs.Queues as queues
 use Rattle.top_down.specs.declared.tuple.Tuple.{Tuple}
 use Rattle.top_down.specs.declared.tuple.Goal.TheVariants.{Go}
 use Rattle.top_down.specs.Rules.{Rule}
-use Rattle.top_down_sweep.specs.declared.ask.Ask.{Ask}
-use Rattle.top_down_sweep.specs.declared.ask.Member.{Member}
-use Rattle.top_down_sweep.specs.declared.ask.Members.{Members}
-use Rattle.top_down_sweep.specs.declared.operand.Operand.{Operand}
-use Rattle.top_down_sweep.specs.declared.operand.Operands.{Operands}
+use Rattle.tuple_asks.specs.declared.ask.Ask.{Ask}
+use Rattle.tuple_asks.specs.declared.ask.Member.{Member}
+use Rattle.tuple_asks.specs.declared.ask.Members.{Members}
+use Rattle.tuple_asks.specs.declared.operand.Operand.{Operand}
+use Rattle.tuple_asks.specs.declared.operand.Operands.{Operands}
 use Rattle.top_down_sweep.specs.declared.machine.Machine.{Machine}
-use Rattle.top_down_sweep.specs.declared.start.Files.{Files}
+use Rattle.tuple_asks.specs.declared.files.Files.{Files}
 use Rattle.top_down_sweep.specs.Calls.{SameTask, Does, HoldsAsks, HoldsAskFirst, KeepsAsks}
 use Rattle.top_down_sweep.specs.Changes.{goal_below}
-use Rattle.top_down_sweep.specs.Knowing.{FileBytes, bytes_in, KnowsTuple, KnowsMember, KnowsMembers, KnowsBelow, KnowsHands, StaysKnown}
-use Rattle.top_down_sweep.specs.Meaning.{roots_of}
-use Rattle.top_down_sweep.specs.Members.{is_node, filled, all_filled, on_side, members_of}
-use Rattle.top_down_sweep.specs.Sweeps.{files_in, IsMade, IsOperand, AreOperands, IsSoundMachine, machine_accounts}
-use Rattle.top_down_sweep.specs.Waiting.{Waits, AreApart, AreReading, HasNoHands, AreBytesOf, KnowsAsk, HoldsSome, HoldsFirst}
+use Rattle.tuple_asks.specs.Knowing.{FileBytes, KnowsTuple, KnowsMember, KnowsMembers, KnowsBelow}
+use Rattle.top_down_sweep.specs.Knowing.{bytes_in}
+use Rattle.tuple_asks.specs.Knowing.{KnowsHands, StaysKnown}
+use Rattle.tuple_asks.specs.Readings.{roots_of}
+use Rattle.tuple_asks.specs.Members.{is_node, filled, all_filled, on_side, members_of}
+use Rattle.top_down_sweep.specs.Sweeps.{files_in, IsMade, IsSoundMachine, machine_accounts}
+use Rattle.tuple_asks.specs.Operands.{IsOperand, AreOperands}
+use Rattle.top_down_sweep.specs.Waiting.{Waits, AreApart, AreBytesOf, KnowsAsk, HoldsSome}
+use Rattle.tuple_asks.specs.Operands.{AreReading, HasNoHands}
+use Rattle.top_down_sweep.specs.Waiting.{HoldsFirst}
 use Rattle.top_down_sweep.proofs.Holding.{SameApart}
 use Rattle.top_down_sweep.proofs.OperandsStay.{own_apart, saved_apart}
 use Rattle.top_down_sweep.proofs.OwnRuns.{serves_past}
@@ -163,24 +168,6 @@ none_asks rule begins m world waits no_run none reading = record {
         reading = reading;
       },
     )
-
--- the node that was read leads to pointers that its file names
-pub node_below : (n place : ℕ) (bytes : List ℕ) (x : Node) → IsNodeAt n place bytes x → place < count_of bytes
-    → IsKnown bytes x.low × IsKnown bytes x.high
-node_below n place bytes x at among = (
-  inr (inr (record {
-    place = place;
-    since = omega arith;
-    among = among;
-    side = inl (sym (ap (λ (ws : List ℕ). slice_index ws 1) at.record_is.same));
-  })),
-  inr (inr (record {
-    place = place;
-    since = omega arith;
-    among = among;
-    side = inr (sym (ap (λ (ws : List ℕ). slice_index ws 2) at.record_is.same));
-  })),
-)
 
 module _ (m q : Machine) (old new : World) (files : files_in q ≡ files_in m) where
   -- what the operands' files hold stays where they are apart from what is written

@@ -35,14 +35,14 @@ use Rattle.sweep_core.specs.Carries.{IsBehindPoints, OnlySaved}
 use Rattle.sweep_core.specs.Sweeps.{IsNoDamage}
 use Rattle.sweep_core.proofs.Carrying.{froze_saved, carries_then, carries_more, carries_ok, carries_err}
 use Rattle.sweep_core.proofs.Untaken.{froze_empty}
-use Rattle.top_down_sweep.specs.declared.ask.Ask.{Ask}
-use Rattle.top_down_sweep.specs.declared.place.Phase.{Phase}
-use Rattle.top_down_sweep.specs.declared.place.Phase.TheVariants as phases
+use Rattle.tuple_asks.specs.declared.ask.Ask.{Ask}
+use Rattle.tuple_asks.specs.declared.place.Phase.{Phase}
+use Rattle.tuple_asks.specs.declared.place.Phase.TheVariants as phases
 use Rattle.top_down_sweep.specs.declared.machine.Machine.{Machine}
-use Rattle.top_down_sweep.specs.Items.{ask_words, IsAsk, ask_cmp}
+use Rattle.tuple_asks.specs.Items.{ask_words, IsAsk, ask_cmp}
 use Rattle.top_down_sweep.specs.Fuel.{fuel_at, machine_fuel}
 use Rattle.top_down_sweep.specs.Sweeps.{files_in, IsMade, IsServed, IsPhaseAt, IsSoundMachine, HasMade, machine_accounts, Refuses}
-use Rattle.top_down_sweep.specs.Knowing.{FileBytes}
+use Rattle.tuple_asks.specs.Knowing.{FileBytes}
 use Rattle.top_down_sweep.specs.Waiting.{Waits, AreApart, HoldsSome}
 use Rattle.top_down_sweep.specs.Meaning.{Contents, StandsFor}
 use Rattle.top_down_sweep.specs.Calls.{IsFit, IsStepAt, IsMachineInStep}

@@ -19,18 +19,19 @@ use Rattle.sweep_core.specs.declared.turn.Turn.{Turn}
 use Rattle.top_down.specs.declared.tuple.Tuple.{Tuple}
 use Rattle.top_down.specs.Rules.{Rule}
 use Rattle.top_down_laws.specs.Readings.{Diagrams}
-use Rattle.top_down_sweep.specs.declared.ask.Ask.{Ask}
-use Rattle.top_down_sweep.specs.declared.place.Phase.{Phase}
-use Rattle.top_down_sweep.specs.declared.place.Phase.TheVariants as phases
-use Rattle.top_down_sweep.specs.declared.start.Files.{Files}
+use Rattle.tuple_asks.specs.declared.ask.Ask.{Ask}
+use Rattle.tuple_asks.specs.declared.place.Phase.{Phase}
+use Rattle.tuple_asks.specs.declared.place.Phase.TheVariants as phases
+use Rattle.tuple_asks.specs.declared.files.Files.{Files}
 use Rattle.top_down_sweep.specs.declared.beginning.OperandFiles.{OperandFiles}
 use Rattle.top_down_sweep.specs.declared.sweep.TopDownSweep.{TopDownSweep}
 use Rattle.top_down_sweep.specs.Beginning.{IsReady, Starts, files_from}
-use Rattle.top_down_sweep.specs.Damage.{IsStartFault}
+use Rattle.tuple_asks.specs.Damage.{IsStartFault}
 use Rattle.top_down_sweep.specs.Fuel.{fuel_at, fuel_of, weight}
 use Rattle.top_down_sweep.specs.Making.{TableJob, Makes, Gives, accounts_along}
 use Rattle.top_down_sweep.specs.Meaning.{Task, table_of, IsTaskOn, Remains, IsMadeWhere}
-use Rattle.top_down_sweep.specs.Sweeps.{accounts, files_of, made_in, made_at, IsMade, IsPhaseAt, IsSound, IsStartDamage, HasMade}
+use Rattle.top_down_sweep.specs.Sweeps.{accounts, files_of, made_in, made_at, IsMade, IsPhaseAt, IsSound, HasMade}
+use Rattle.tuple_asks.specs.Operands.{IsStartDamage}
 use Rattle.top_down_sweep.specs.Tasks.{AreArcFiles, IsTaskFor, MadeIsDiagram}
 use Rattle.top_down_sweep.specs.Waiting.{IsApart, AreApart}
 use Rattle.top_down_sweep.proofs.Holding.{if_err_map}

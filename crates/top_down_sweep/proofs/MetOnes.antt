@@ -16,8 +16,8 @@ use Rattle.arc_file.specs.Files.{Leads, end_arcs}
 use Rattle.arc_diagrams.specs.Arcs.{IsMet}
 use Rattle.top_down.specs.declared.tuple.Tuple.{Tuple}
 use Rattle.top_down_laws.proofs.EndValues.{end_is_value}
-use Rattle.top_down_sweep.specs.declared.place.Phase.{Phase}
-use Rattle.top_down_sweep.specs.declared.place.Phase.TheVariants as phases
+use Rattle.tuple_asks.specs.declared.place.Phase.{Phase}
+use Rattle.tuple_asks.specs.declared.place.Phase.TheVariants as phases
 use Rattle.top_down_sweep.specs.declared.machine.Machine.{Machine}
 use Rattle.top_down_sweep.specs.Sweeps.{made_at, has_root_one}
 use Rattle.top_down_sweep.specs.Meaning.{Task, table_of, leads_to_one, some_one, IsDone, RemainsIn}

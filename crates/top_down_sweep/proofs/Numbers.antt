@@ -6,12 +6,12 @@ use Rattle.arc_file.specs.declared.writer.ArcWriter.{ArcWriter}
 use Rattle.arc_file.specs.Writers.{inner_count}
 use Rattle.shelf_model.specs.Calls.{longest, most_piece}
 use Rattle.block_stream.specs.Appenders.{filling_of}
-use Rattle.top_down_sweep.specs.declared.ask.Ask.{Ask}
-use Rattle.top_down_sweep.specs.declared.place.Numbered.{Numbered}
-use Rattle.top_down_sweep.specs.declared.place.Asking.{Asking}
-use Rattle.top_down_sweep.specs.declared.place.Phase.{Phase}
-use Rattle.top_down_sweep.specs.declared.place.Phase.TheVariants as phases
-use Rattle.top_down_sweep.specs.Soundness.{is_due, is_asker, next_number, next_numbered}
+use Rattle.tuple_asks.specs.declared.ask.Ask.{Ask}
+use Rattle.tuple_asks.specs.declared.place.Numbered.{Numbered}
+use Rattle.tuple_asks.specs.declared.place.Asking.{Asking}
+use Rattle.tuple_asks.specs.declared.place.Phase.{Phase}
+use Rattle.tuple_asks.specs.declared.place.Phase.TheVariants as phases
+use Rattle.tuple_asks.specs.Soundness.{is_due, is_asker, next_number, next_numbered}
 use Rattle.top_down_sweep.specs.Sweeps.{IsPhaseAt}
 
 -- the next number is at most one more, and then an arc to a node is put

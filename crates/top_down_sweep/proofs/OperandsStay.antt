@@ -12,13 +12,13 @@ use Rattle.sweep_core.specs.Carries.{IsBehindPoints, OnlySaved, Carries}
 use Rattle.top_down.specs.declared.tuple.Tuple.{Tuple}
 use Rattle.top_down.specs.Rules.{Rule}
 use Rattle.top_down_sweep.specs.declared.machine.Machine.{Machine}
-use Rattle.top_down_sweep.specs.declared.start.Files.{Files}
+use Rattle.tuple_asks.specs.declared.files.Files.{Files}
 use Rattle.top_down_sweep.specs.Calls.{SameTask, Does}
 use Rattle.top_down_sweep.specs.Meaning.{Task, IsTaskOn}
 use Rattle.top_down_sweep.specs.Sweeps.{files_in, IsMade, IsSoundMachine, machine_accounts}
 use Rattle.top_down_sweep.proofs.Holding.{SameApart}
 use Rattle.top_down_sweep.proofs.OwnRuns.{serves_past}
-use Rattle.top_down_sweep.proofs.StartKeeps.{moved_file}
+use Rattle.tuple_asks.proofs.StartKeeps.{moved_file}
 
 -- an operation on files is the task while the operands stay
 pub task_on : (t : Task) (rule : Rule) (begins : Tuple → Tuple) (n : ℕ) (files now_files : Files)

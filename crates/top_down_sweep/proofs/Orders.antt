@@ -25,21 +25,21 @@ use Rattle.top_down.specs.declared.tuple.Goal.{Goal}
 use Rattle.top_down.specs.declared.tuple.Goal.TheVariants as goals
 use Rattle.top_down.specs.Asks.{side_arcs}
 use Rattle.top_down_laws.specs.Remains.{answer_arcs, arc_from}
-use Rattle.top_down_sweep.specs.declared.ask.Ask.{Ask}
-use Rattle.top_down_sweep.specs.declared.ask.Members.{Members}
-use Rattle.top_down_sweep.specs.declared.place.Numbered.{Numbered}
-use Rattle.top_down_sweep.specs.declared.place.Asking.{Asking}
-use Rattle.top_down_sweep.specs.declared.place.Phase.{Phase}
-use Rattle.top_down_sweep.specs.declared.place.Phase.TheVariants as phases
+use Rattle.tuple_asks.specs.declared.ask.Ask.{Ask}
+use Rattle.tuple_asks.specs.declared.ask.Members.{Members}
+use Rattle.tuple_asks.specs.declared.place.Numbered.{Numbered}
+use Rattle.tuple_asks.specs.declared.place.Asking.{Asking}
+use Rattle.tuple_asks.specs.declared.place.Phase.{Phase}
+use Rattle.tuple_asks.specs.declared.place.Phase.TheVariants as phases
 use Rattle.top_down_sweep.specs.declared.machine.Machine.{Machine}
 use Rattle.top_down_sweep.specs.declared.sweep.TopDownSweep.{TopDownSweep}
-use Rattle.top_down_sweep.specs.Items.{members_cmp, ask_cmp}
+use Rattle.tuple_asks.specs.Items.{members_cmp, ask_cmp}
 use Rattle.top_down_sweep.specs.Sweeps.{made_at, made_in}
 use Rattle.top_down.specs.declared.tuple.Tuple.{Tuple}
 use Rattle.top_down.specs.Rules.{Rule}
 use Rattle.top_down_sweep.specs.Calls.{IsTrustedAt, IsTrusted}
 use Rattle.top_down_sweep.specs.Meaning.{form_of}
-use Rattle.top_down_sweep.specs.Soundness.{side_number, asker_word, is_asker, asks_above, nobody, identifier, next_number, next_numbered}
+use Rattle.tuple_asks.specs.Soundness.{side_number, asker_word, is_asker, asks_above, nobody, identifier, next_number, next_numbered}
 use Rattle.top_down_sweep.specs.Ordered.{AreOrdered, source_word, AreInnerTo, AreEndsTo, ArePutTo, ArePut, HoldsPut, HoldsOrdered, IsOrderedAt, IsOrdered, KeepsArcs}
 use Rattle.top_down_sweep.proofs.FormsOf.{IsKnown}
 use Rattle.top_down_sweep.proofs.Holding.{ask_total, key_from}

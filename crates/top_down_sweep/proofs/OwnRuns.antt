@@ -8,9 +8,9 @@ use Rattle.run_merge.specs.Sorters as sorters
 use Rattle.run_merge.proofs.RunFiles.{push_taken, read_taken, first_taken}
 use Rattle.level_queue.specs.declared.queue.LevelQueue.{LevelQueue}
 use Rattle.level_queue.specs.Queues as queues
-use Rattle.top_down_sweep.specs.declared.ask.Ask.{Ask}
+use Rattle.tuple_asks.specs.declared.ask.Ask.{Ask}
 use Rattle.top_down_sweep.specs.declared.machine.Machine.{Machine}
-use Rattle.top_down_sweep.specs.Items.{ask_words, IsAsk}
+use Rattle.tuple_asks.specs.Items.{ask_words, IsAsk}
 use Rattle.top_down_sweep.specs.Sweeps.{Refuses}
 use Rattle.top_down_sweep.specs.Damage.{IsOfCheckpoint}
 

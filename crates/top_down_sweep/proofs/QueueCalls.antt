@@ -19,9 +19,9 @@ use Rattle.level_queue.specs.declared.queue.LevelQueue.{LevelQueue}
 use Rattle.level_queue.specs.Queues as queues
 use Rattle.level_queue.proofs.QueueLaws.{queue_serves_on}
 use Rattle.sweep_core.specs.Accounts.{CanBeTaken}
-use Rattle.top_down_sweep.specs.declared.ask.Ask.{Ask}
+use Rattle.tuple_asks.specs.declared.ask.Ask.{Ask}
 use Rattle.top_down_sweep.specs.declared.machine.Machine.{Machine}
-use Rattle.top_down_sweep.specs.Items.{ask_words, IsAsk}
+use Rattle.tuple_asks.specs.Items.{ask_words, IsAsk}
 use Rattle.top_down_sweep.specs.Sweeps.{IsServed}
 use Rattle.top_down_sweep.specs.Calls.{Does}
 use Rattle.top_down_sweep.proofs.Doing.{does_spilled}

@@ -5,18 +5,20 @@ use Rattle.shelf_model.specs.World.{World, now, file}
 use Rattle.shelf_model.specs.Moments.{Ran, Stays}
 use Rattle.level_queue.specs.Queues as queues
 use Rattle.top_down_laws.specs.Readings as readings
-use Rattle.top_down_sweep.specs.declared.ask.Ask.{Ask}
-use Rattle.top_down_sweep.specs.declared.operand.Operand.{Operand}
-use Rattle.top_down_sweep.specs.declared.place.Asking.{Asking}
+use Rattle.tuple_asks.specs.declared.ask.Ask.{Ask}
+use Rattle.tuple_asks.specs.declared.operand.Operand.{Operand}
+use Rattle.tuple_asks.specs.declared.place.Asking.{Asking}
 use Rattle.top_down_sweep.specs.declared.machine.Machine.{Machine}
-use Rattle.top_down_sweep.specs.Members.{wants}
-use Rattle.top_down_sweep.specs.Sweeps.{AreOperands}
+use Rattle.tuple_asks.specs.Members.{wants}
+use Rattle.tuple_asks.specs.Operands.{AreOperands}
 use Rattle.top_down_sweep.specs.Meaning.{Task, Contents, IsWorking, IsHandling}
-use Rattle.top_down_sweep.specs.Changes.{ReadsNext}
+use Rattle.tuple_asks.specs.Readings.{ReadsNext}
 use Rattle.top_down_sweep.specs.Turns.{AdvancesAt}
 use Rattle.top_down_sweep.proofs.TurnNumbers.{fewer_left}
-use Rattle.top_down_sweep.proofs.Holding.{looked_same, first_files, second_files, third_files}
-use Rattle.top_down_sweep.proofs.StandingOn.{read_still, stands_read}
+use Rattle.tuple_asks.proofs.Staying.{looked_same}
+use Rattle.top_down_sweep.proofs.Holding.{first_files, second_files, third_files}
+use Rattle.tuple_asks.proofs.Staying.{read_still}
+use Rattle.top_down_sweep.proofs.StandingOn.{stands_read}
 use Rattle.top_down_sweep.proofs.WorkingOn.{first_read_left, second_read_left, third_read_left}
 
 module _ (t : Task) (s : Asking) (a : Ask) (m : Machine) (x : Operand) (old new : World)

@@ -1,14 +1,14 @@
 -- A machine that is rebuilt: what stays of the files, and what remains of its task.
-use Rattle.std.proofs.Common.{◌≡◌, ◌∙◌, ◌⊎◌, ℕ, ◌+◌, ◌*◌, ◌<◌, ◌≤◌, List, [], length, take, refl, sym, ap, subst, inl, inr, arith}
+use Rattle.std.proofs.Common.{◌≡◌, ◌∙◌, ℕ, ◌+◌, ◌*◌, ◌<◌, ◌≤◌, List, [], length, take, refl, sym, ap, subst, inl, inr}
+use Rattle.std.proofs.Common.{arith}
 use Rattle.std.specs.Prelude.{Option, Some, None, map, get_or, IfSome}
 use Rattle.std.proofs.lemmas.List.{length-map, get_or-map, get_or_default}
 use Rattle.shelf_model.specs.declared.file_no.FileNo.{FileNo}
-use Rattle.shelf_model.specs.declared.sort_fault.SortFault.{SortFault}
 use Rattle.shelf_model.specs.declared.fault.StreamFault.{StreamFault}
 use Rattle.shelf_model.specs.declared.fault.StreamFault.TheVariants as stream
 use Rattle.shelf_model.specs.File.{File, IsKept}
 use Rattle.shelf_model.specs.SortFaults.{handed_on}
-use Rattle.shelf_model.specs.Folder.{Folder, file_in}
+use Rattle.shelf_model.specs.Folder.{file_in}
 use Rattle.shelf_model.specs.Moments.{Ran, Stays}
 use Rattle.shelf_model.specs.World.{Moment, World, now, file}
 use Rattle.shelf_model.proofs.Runs.{ran_end}
@@ -29,8 +29,6 @@ use Rattle.run_tiers.specs.declared.run.RunTable.{RunTable}
 use Rattle.run_tiers.specs.Tables.{IsInUse, no_run, head_of, Names}
 use Rattle.run_tiers.proofs.TableLaws.{head_used, use_of}
 use Rattle.level_queue.proofs.QueueLaws.{queue_counted}
-use Rattle.node_reading.specs.Resuming.{IsPlaceFault}
-use Rattle.node_reading.proofs.NodeReading.{trailer_before}
 use Rattle.saved_words.specs.declared.carried.Carried.{Ghosts}
 use Rattle.sweep_core.specs.declared.checkpoint.Checkpoint.{Checkpoint}
 use Rattle.sweep_core.specs.Carries.{OnlyCutBehind}
@@ -40,44 +38,42 @@ use Rattle.top_down.specs.declared.tuple.Tuple.{Tuple}
 use Rattle.top_down.specs.Rules.{Rule}
 use Rattle.top_down_laws.specs.Laws.{unread_all}
 use Rattle.top_down_laws.specs.Readings.{Diagrams}
-use Rattle.top_down_sweep.specs.declared.ask.Ask.{Ask}
+use Rattle.tuple_asks.specs.declared.ask.Ask.{Ask}
 use Rattle.top_down_sweep.specs.declared.machine.Machine.{Machine}
-use Rattle.top_down_sweep.specs.declared.place.Asking.{Asking}
-use Rattle.top_down_sweep.specs.declared.place.Numbered.{Numbered}
-use Rattle.top_down_sweep.specs.declared.place.Place.{Place}
-use Rattle.top_down_sweep.specs.declared.place.Phase.{Phase}
-use Rattle.top_down_sweep.specs.declared.saved.SavedMachine.{SavedMachine}
-use Rattle.top_down_sweep.specs.declared.saved.SavedArcs.{SavedArcs}
-use Rattle.top_down_sweep.specs.declared.start.Files.{Files}
-use Rattle.top_down_sweep.specs.Items.{ask_words, IsAsk, ask_cmp}
-use Rattle.top_down_sweep.specs.Meaning.{Task, Contents, AreRead, StandsFor, IsLeft, first_contents, RemainsIn, HaveNodes, IsTaskOn, IsTaskOver}
-use Rattle.top_down_sweep.specs.Rebuilds.{saved_place, phase_at, AreReadAs, Restores}
+use Rattle.tuple_asks.specs.declared.place.Asking.{Asking}
+use Rattle.tuple_asks.specs.declared.place.Numbered.{Numbered}
+use Rattle.tuple_asks.specs.declared.place.Place.{Place}
+use Rattle.tuple_asks.specs.declared.place.Phase.{Phase}
+use Rattle.tuple_asks.specs.declared.saved.SavedMachine.{SavedMachine}
+use Rattle.tuple_asks.specs.declared.saved.SavedArcs.{SavedArcs}
+use Rattle.tuple_asks.specs.declared.files.Files.{Files}
+use Rattle.tuple_asks.specs.Items.{ask_words, IsAsk, ask_cmp}
+use Rattle.top_down_sweep.specs.Meaning.{Task, Contents, StandsFor, IsLeft, first_contents, RemainsIn}
+use Rattle.tuple_asks.specs.Readings.{AreRead}
+use Rattle.tuple_asks.specs.Readings.{HaveNodes}
+use Rattle.top_down_sweep.specs.Meaning.{IsTaskOn, IsTaskOver}
+use Rattle.tuple_asks.specs.Resuming.{saved_place, phase_at, AreReadAs}
+use Rattle.top_down_sweep.specs.Rebuilds.{Restores}
 use Rattle.top_down_sweep.specs.ResumeLaws.{shows_still, goes_still, one_machine}
-use Rattle.top_down_sweep.specs.Resumes.{Holds, saved_files, table_in, queue_tables, parts_at, KeepsRules, IsRest, RestsOn, OnOperand, OnInner, OnEnds, OnRun}
-use Rattle.top_down_sweep.specs.Resumes.{reading_at, readings_at, AreAmong, Shows, saved_sides, GoesOnAt, GoesOn, IsOperandFault, IsHandFault, operand_calls}
-use Rattle.top_down_sweep.specs.Resumes.{IsSavedPhase, IsOfRuns, arcs_of, IsArcsFault}
-use Rattle.top_down_sweep.specs.Sweeps.{files_in, AreOperands, IsMade, IsRead, IsPhaseAt}
+use Rattle.top_down_sweep.specs.Resumes.{Holds, queue_tables, parts_at, IsRest}
+use Rattle.tuple_asks.specs.Resuming.{saved_files}
+use Rattle.tuple_asks.specs.SavedRules.{table_in, KeepsRules}
+use Rattle.top_down_sweep.specs.Resumes.{RestsOn, OnOperand, OnInner, OnEnds, OnRun}
+use Rattle.tuple_asks.specs.Resuming.{reading_at, readings_at}
+use Rattle.tuple_asks.specs.Resuming.{AreAmong}
+use Rattle.top_down_sweep.specs.Resumes.{Shows, saved_sides, GoesOnAt, GoesOn}
+use Rattle.tuple_asks.specs.SavedRules.{IsSavedPhase, IsOfRuns}
+use Rattle.tuple_asks.specs.Resuming.{arcs_of, IsArcsFault}
+use Rattle.top_down_sweep.specs.Sweeps.{files_in, IsMade, IsPhaseAt}
+use Rattle.tuple_asks.specs.Operands.{AreOperands, IsRead}
 use Rattle.top_down_sweep.specs.Turns.{left_at, sides_at}
 use Rattle.top_down_sweep.specs.Waiting.{Waits}
-use Rattle.top_down_sweep.proofs.Holding.{SameApart, looked_same}
+use Rattle.top_down_sweep.proofs.Holding.{SameApart}
+use Rattle.tuple_asks.proofs.Staying.{looked_same}
 use Rattle.top_down_sweep.proofs.StandingOn.{all_still}
-use Rattle.top_down_sweep.proofs.Starting.{cut_since, others_uncut}
+use Rattle.tuple_asks.proofs.StartLeaves.{cut_since, others_uncut}
 use Rattle.top_down_sweep.proofs.TurnNumbers.{unread_is, owed_is}
-
--- where the files stay, they are read as they were
-pub reads_stay : (old new : World) → Ran (Stays (now old)) old new → reads_of new ≡ reads_of old
-reads_stay old new ran = ap (λ (d : Folder). λ (f : FileNo). (file_in d f).bytes) (ran_end old new (Stays (now old)) ran)
-
-pub fault_before : (n step : ℕ) (f : FileNo) (read : Option ℕ) (old mid : World) (e : SortFault)
-    → Ran (Stays (now old)) old mid → IsOperandFault n step f read mid e → IsOperandFault n step f read old e
-fault_before n step f None old mid e ran fault = trailer_before f n old mid e (looked_same old mid ran f) fault
-fault_before n step f (Some place) old mid e ran fault =
-    subst (λ r. IsPlaceFault n step (record { file = f; place = place + 1 }) r e ⊎ IsHandFault n f r e)
-    (reads_stay old mid ran) fault
-
-pub calls_before : (f : FileNo) (old mid : World) → Ran (Stays (now old)) old mid
-    → operand_calls (reads_of mid f) ≡ operand_calls (reads_of old f)
-calls_before f old mid ran = ap (λ (r : FileNo → List ℕ). operand_calls (r f)) (reads_stay old mid ran)
+use Rattle.tuple_asks.proofs.Staying.{reads_stay}
 
 -- a file that a table names is that of a run of which records are left
 pub named_run : (step : ℕ) (table : RunTable) (f : FileNo) → Names step table f → IsOfRuns step table.runs f

@@ -12,26 +12,29 @@ use Rattle.level_queue.specs.Queues as queues
 use Rattle.top_down.specs.declared.tuple.Tuple.{Tuple}
 use Rattle.top_down_laws.specs.Readings as readings
 use Rattle.top_down_sweep.specs.declared.machine.Machine.{Machine}
-use Rattle.top_down_sweep.specs.declared.operand.Operand.{Operand}
-use Rattle.top_down_sweep.specs.declared.operand.Operands.{Operands}
-use Rattle.top_down_sweep.specs.declared.place.Place.{Place}
-use Rattle.top_down_sweep.specs.declared.place.Phase.{Phase}
-use Rattle.top_down_sweep.specs.declared.place.Phase.TheVariants as phases
+use Rattle.tuple_asks.specs.declared.operand.Operand.{Operand}
+use Rattle.tuple_asks.specs.declared.operand.Operands.{Operands}
+use Rattle.tuple_asks.specs.declared.place.Place.{Place}
+use Rattle.tuple_asks.specs.declared.place.Phase.{Phase}
+use Rattle.tuple_asks.specs.declared.place.Phase.TheVariants as phases
 use Rattle.top_down_sweep.specs.Calls.{IsTrustedAt, IsMachineTrusted, KeepsAsks}
 use Rattle.top_down_sweep.specs.Freezing.{KeepsAll}
 use Rattle.top_down_sweep.specs.Fuel.{asks_behind, unread, fuel_at, weight, machine_fuel}
 use Rattle.top_down_sweep.specs.Ordered.{KeepsArcs}
-use Rattle.top_down_sweep.specs.Meaning.{Task, Contents, first_contents, IsReadOf, StandsFor, IsLeft, roots_of, RemainsIn, RemainsOf}
-use Rattle.top_down_sweep.specs.Rebuilds.{read_at}
-use Rattle.top_down_sweep.specs.Resumes.{reading_at, IsAmong}
+use Rattle.top_down_sweep.specs.Meaning.{Task, Contents, first_contents, StandsFor, IsLeft, RemainsIn, RemainsOf}
+use Rattle.tuple_asks.specs.Readings.{IsReadOf, roots_of}
+use Rattle.tuple_asks.specs.Resuming.{read_at}
+use Rattle.tuple_asks.specs.Resuming.{reading_at, IsAmong}
 use Rattle.top_down_sweep.specs.Turns.{left_at, turns_left, owed_by, sides_at}
 use Rattle.top_down.specs.Rules.{Rule}
-use Rattle.top_down_sweep.specs.Knowing.{FileBytes, bytes_in}
+use Rattle.tuple_asks.specs.Knowing.{FileBytes}
+use Rattle.top_down_sweep.specs.Knowing.{bytes_in}
 use Rattle.top_down_sweep.specs.Sweeps.{files_in}
-use Rattle.top_down_sweep.specs.Waiting.{AreApart, HasNoHands, HoldsSome}
+use Rattle.top_down_sweep.specs.Waiting.{AreApart, HoldsSome}
+use Rattle.tuple_asks.specs.Operands.{HasNoHands}
 use Rattle.top_down_sweep.proofs.Known.{asks_kept}
 use Rattle.top_down_sweep.proofs.Orders.{put_kept}
-use Rattle.top_down_sweep.proofs.Resuming.{get_behind}
+use Rattle.tuple_asks.proofs.ResumeReading.{get_behind}
 use Rattle.top_down_sweep.proofs.TurnNumbers.{operand_left, owed_is, sides_are}
 
 -- what stays of a machine whose place, operands and last ask are the same

@@ -28,19 +28,24 @@ use Rattle.top_down_laws.specs.Laws.{unread_all}
 use Rattle.top_down_laws.specs.Readings as readings
 use Rattle.top_down_laws.specs.Turns.{unread_count, owed}
 use Rattle.top_down_sweep.specs.declared.machine.Machine.{Machine}
-use Rattle.top_down_sweep.specs.declared.place.Numbered.{Numbered}
-use Rattle.top_down_sweep.specs.declared.place.Place.{Place}
-use Rattle.top_down_sweep.specs.declared.place.Phase.{Phase}
-use Rattle.top_down_sweep.specs.declared.place.Phase.TheVariants as phases
-use Rattle.top_down_sweep.specs.declared.saved.SavedMachine.{SavedMachine}
-use Rattle.top_down_sweep.specs.declared.start.Files.{Files}
+use Rattle.tuple_asks.specs.declared.place.Numbered.{Numbered}
+use Rattle.tuple_asks.specs.declared.place.Place.{Place}
+use Rattle.tuple_asks.specs.declared.place.Phase.{Phase}
+use Rattle.tuple_asks.specs.declared.place.Phase.TheVariants as phases
+use Rattle.tuple_asks.specs.declared.saved.SavedMachine.{SavedMachine}
+use Rattle.tuple_asks.specs.declared.files.Files.{Files}
 use Rattle.top_down_sweep.specs.Freezing.{KeepsAll, HasSettled, HasTables}
 use Rattle.top_down_sweep.specs.Fuel.{fuel_at, weight, machine_fuel}
-use Rattle.top_down_sweep.specs.Items.{ask_words, IsAsk, ask_cmp}
-use Rattle.top_down_sweep.specs.Meaning.{Task, Contents, waiting_of, AreRead, StandsFor, IsLeft, first_contents, RemainsIn, RemainsOf, IsTaskOver, IsTaskOn}
-use Rattle.top_down_sweep.specs.Rebuilds.{read_at, asking_in, saved_machine}
-use Rattle.top_down_sweep.specs.Resumes.{table_in, queue_tables, saved_files, readings_at, AreAmong, Shows, saved_sides, GoesOnAt, GoesOn, IsRest, OnOperand, OnInner, OnEnds, OnRun}
-use Rattle.top_down_sweep.specs.Sweeps.{files_in, IsMade, IsRead}
+use Rattle.tuple_asks.specs.Items.{ask_words, IsAsk, ask_cmp}
+use Rattle.top_down_sweep.specs.Meaning.{Task, Contents, waiting_of, StandsFor, IsLeft, first_contents, RemainsIn, RemainsOf, IsTaskOver, IsTaskOn}
+use Rattle.tuple_asks.specs.Readings.{AreRead}
+use Rattle.tuple_asks.specs.Resuming.{read_at}
+use Rattle.top_down_sweep.specs.Rebuilds.{asking_in, saved_machine}
+use Rattle.tuple_asks.specs.SavedRules.{table_in}
+use Rattle.top_down_sweep.specs.Resumes.{queue_tables, Shows, saved_sides, GoesOnAt, GoesOn, IsRest, OnOperand, OnInner, OnEnds, OnRun}
+use Rattle.tuple_asks.specs.Resuming.{saved_files, readings_at, AreAmong}
+use Rattle.top_down_sweep.specs.Sweeps.{files_in, IsMade}
+use Rattle.tuple_asks.specs.Operands.{IsRead}
 use Rattle.top_down_sweep.specs.Turns.{left_at, turns_left, sides_at}
 use Rattle.top_down_sweep.proofs.SavedNow.{IsSameBut, reading_saved, among_saved}
 use Rattle.top_down_sweep.proofs.SavedTables.{run_is_named}

@@ -20,17 +20,19 @@ use Rattle.level_queue.specs.Tables.{AreTables, AreTidyTables, ServeTables, Name
 use Rattle.sweep_core.specs.declared.checkpoint.Checkpoint.{Checkpoint}
 use Rattle.sweep_core.specs.Saving.{IsMadePart, IsReadPart, IsOfStep}
 use Rattle.sweep_core.specs.Tables as core
-use Rattle.top_down_sweep.specs.declared.ask.Ask.{Ask}
+use Rattle.tuple_asks.specs.declared.ask.Ask.{Ask}
 use Rattle.top_down_sweep.specs.declared.machine.Machine.{Machine}
-use Rattle.top_down_sweep.specs.declared.place.Numbered.{Numbered}
-use Rattle.top_down_sweep.specs.declared.place.Phase.{Phase}
-use Rattle.top_down_sweep.specs.declared.place.Phase.TheVariants as phases
-use Rattle.top_down_sweep.specs.declared.saved.SavedArcs.{SavedArcs}
-use Rattle.top_down_sweep.specs.declared.start.Files.{Files}
+use Rattle.tuple_asks.specs.declared.place.Numbered.{Numbered}
+use Rattle.tuple_asks.specs.declared.place.Phase.{Phase}
+use Rattle.tuple_asks.specs.declared.place.Phase.TheVariants as phases
+use Rattle.tuple_asks.specs.declared.saved.SavedArcs.{SavedArcs}
+use Rattle.tuple_asks.specs.declared.files.Files.{Files}
 use Rattle.top_down_sweep.specs.Fuel.{fuel_at}
 use Rattle.top_down_sweep.specs.Rebuilds.{asking_in, saved_machine}
-use Rattle.top_down_sweep.specs.Resumes.{table_in, queue_tables, parts_at, IsOfRuns, IsSavedPhase, KeepsRules, HasQueue}
-use Rattle.top_down_sweep.specs.Sweeps.{files_in, IsMade, IsRead, IsPhaseAt, IsSoundMachine}
+use Rattle.tuple_asks.specs.SavedRules.{table_in, IsOfRuns, IsSavedPhase, KeepsRules}
+use Rattle.top_down_sweep.specs.Resumes.{queue_tables, parts_at, HasQueue}
+use Rattle.top_down_sweep.specs.Sweeps.{files_in, IsMade, IsPhaseAt, IsSoundMachine}
+use Rattle.tuple_asks.specs.Operands.{IsRead}
 use Rattle.top_down_sweep.proofs.SavedNow.{few_unread_nodes}
 
 -- the tables of three

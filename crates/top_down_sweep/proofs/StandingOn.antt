@@ -1,5 +1,5 @@
 -- The lists that a machine stands for, from call to call.
-use Rattle.std.proofs.Common.{◌≡◌, ℕ, ◌∙◌, Bool, List, [], ◌∷◌, refl, sym, subst, ap, inl, inr}
+use Rattle.std.proofs.Common.{◌≡◌, ℕ, ◌∙◌, Bool, List, [], ◌∷◌, sym, subst, ap, inl, inr}
 use Rattle.std.specs.Prelude.{◌⊎◌, Option, Some, None, Result, Ok, Err, IfOk, IfErr, OnOk, IsTrue}
 use Rattle.std.specs.List.Sorted.{IsSorted}
 use Rattle.shelf_model.specs.declared.file_no.FileNo.{FileNo}
@@ -24,41 +24,28 @@ use Rattle.level_queue.specs.Queues as queues
 use Rattle.level_queue.proofs.QueueLaws.{queue_kept}
 use Rattle.sweep_core.specs.Accounts.{CanBeTaken}
 use Rattle.sweep_core.specs.Sweeps.{IsNoDamage}
-use Rattle.node_file.specs.Readers.{AreLeft}
-use Rattle.node_reading.specs.Reading.{bytes_of}
-use Rattle.node_reading.proofs.NodeReading.{still_reading}
-use Rattle.top_down_laws.specs.Readings.{Reading, Readings}
-use Rattle.top_down_sweep.specs.declared.ask.Ask.{Ask}
-use Rattle.top_down_sweep.specs.declared.operand.Operand.{Operand}
-use Rattle.top_down_sweep.specs.declared.operand.Operands.{Operands}
-use Rattle.top_down_sweep.specs.declared.place.Place.{Place}
+use Rattle.top_down_laws.specs.Readings.{Readings}
+use Rattle.tuple_asks.specs.declared.ask.Ask.{Ask}
+use Rattle.tuple_asks.specs.declared.operand.Operands.{Operands}
+use Rattle.tuple_asks.specs.declared.place.Place.{Place}
 use Rattle.top_down_sweep.specs.declared.machine.Machine.{Machine}
-use Rattle.top_down_sweep.specs.Items.{ask_words, IsAsk, ask_cmp}
-use Rattle.top_down_sweep.specs.Sweeps.{files_in, IsMade, IsServed, IsOperand, AreOperands}
-use Rattle.top_down_sweep.specs.Knowing.{FileBytes}
+use Rattle.tuple_asks.specs.Items.{ask_words, IsAsk, ask_cmp}
+use Rattle.top_down_sweep.specs.Sweeps.{files_in, IsMade, IsServed}
+use Rattle.tuple_asks.specs.Operands.{AreOperands}
+use Rattle.tuple_asks.specs.Knowing.{FileBytes}
 use Rattle.top_down_sweep.specs.Waiting.{Waits, AreApart, HoldsSome}
-use Rattle.top_down_sweep.specs.Meaning.{Contents, IsReadOf, AreRead, StandsFor, some_one}
+use Rattle.top_down_sweep.specs.Meaning.{Contents, StandsFor, some_one}
+use Rattle.tuple_asks.specs.Readings.{AreRead}
 use Rattle.top_down_sweep.specs.Changes.{ShowsAsk, TakesAsk, JoinAsks}
 use Rattle.top_down_sweep.proofs.OwnRuns.{serves_past}
-use Rattle.top_down_sweep.proofs.Holding.{SameApart, apart_written, apart_spilled, looked_same, runs_apart}
+use Rattle.top_down_sweep.proofs.Holding.{SameApart, apart_written, apart_spilled, runs_apart}
+use Rattle.tuple_asks.proofs.Staying.{looked_same}
+use Rattle.tuple_asks.proofs.Staying.{read_still}
 
 -- the asks that wait ascend
 pub asks_ascend : (q : LevelQueue Ask) (world : World) (asks : List Ask) → Waits q world asks
     → IsSorted ask_cmp asks
 asks_ascend q world asks waits = waits.sorter.ascends
-
--- what was read of an operand stays where the bytes of its file do
-pub read_still : (n : ℕ) (o : Operand) (old new : World) (r : Reading) → IsOperand n o
-    → (file new o.file).bytes ≡ (file old o.file).bytes → IsReadOf o old r → IsReadOf o new r
-read_still n o old new r is same read =
-    let bytes : bytes_of o.reader new ≡ bytes_of o.reader old =
-    ap (λ f. (file new f).bytes) is.file_is ∙ same ∙ sym (ap (λ f. (file old f).bytes) is.file_is)
-    in
-    record {
-      hand_is = read.hand_is;
-      reads = still_reading o.reader o.reader old new refl bytes read.reads read.reads.reads;
-      left = subst (λ b. AreLeft o.reader b r.unread) (sym bytes) read.left;
-    }
 
 pub all_still : (m : Machine) (old new : World) (r : Readings)
     → AreOperands m.place.variables m.operands → SameApart (files_in m) m.parts.step old new

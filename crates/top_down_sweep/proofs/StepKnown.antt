@@ -8,10 +8,10 @@ use Rattle.top_down.specs.Operations.{quantify_rule}
 use Rattle.top_down.specs.Rules.{Rule}
 use Rattle.top_down.specs.Tuples.{unused}
 use Rattle.top_down_laws.proofs.PickLaws.{AreOf, PicksOf, product_of, choice_of, quantify_of, restrict_of}
-use Rattle.top_down_sweep.specs.declared.steps.StepOperation.{StepOperation}
-use Rattle.top_down_sweep.specs.declared.steps.StepOperation.TheVariants.{Operator, Choice, Quantifier, Restriction}
-use Rattle.top_down_sweep.specs.Knowing.{FileBytes, KnowsTuple, StaysKnown}
-use Rattle.top_down_sweep.specs.Operations.{rule_of, begins_of}
+use Rattle.sweep_operations.specs.declared.steps.StepOperation.{StepOperation}
+use Rattle.sweep_operations.specs.declared.steps.StepOperation.TheVariants.{Operator, Choice, Quantifier, Restriction}
+use Rattle.tuple_asks.specs.Knowing.{FileBytes, KnowsTuple, StaysKnown}
+use Rattle.sweep_operations.specs.Operations.{rule_of, begins_of}
 
 -- a quantifier's first two operands are one file; of other operations they may be any
 abbrev pub AreTwins : StepOperation → FileBytes → Type 0

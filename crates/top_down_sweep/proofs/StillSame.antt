@@ -10,17 +10,20 @@ use Rattle.sweep_core.specs.Sweeps.{IsFirm}
 use Rattle.top_down.specs.declared.tuple.Tuple.{Tuple}
 use Rattle.top_down.specs.Rules.{Rule}
 use Rattle.top_down_sweep.specs.declared.machine.Machine.{Machine}
-use Rattle.top_down_sweep.specs.declared.place.Phase.{Phase}
-use Rattle.top_down_sweep.specs.declared.place.Phase.TheVariants as phases
+use Rattle.tuple_asks.specs.declared.place.Phase.{Phase}
+use Rattle.tuple_asks.specs.declared.place.Phase.TheVariants as phases
 use Rattle.top_down_sweep.specs.Calls.{IsStepAt, IsMachineInStep}
-use Rattle.top_down_sweep.specs.Items.{ask_words, IsAsk, ask_cmp}
-use Rattle.top_down_sweep.specs.Meaning.{Task, AreRead, IsTaskOn}
-use Rattle.top_down_sweep.specs.Sweeps.{files_in, IsMade, IsRead, IsSoundMachine}
-use Rattle.top_down_sweep.specs.Waiting.{AreReading}
+use Rattle.tuple_asks.specs.Items.{ask_words, IsAsk, ask_cmp}
+use Rattle.top_down_sweep.specs.Meaning.{Task, IsTaskOn}
+use Rattle.tuple_asks.specs.Readings.{AreRead}
+use Rattle.top_down_sweep.specs.Sweeps.{files_in, IsMade, IsSoundMachine}
+use Rattle.tuple_asks.specs.Operands.{IsRead}
+use Rattle.tuple_asks.specs.Operands.{AreReading}
 use Rattle.top_down_sweep.proofs.Holding.{operand_still}
 use Rattle.top_down_sweep.proofs.SavedNow.{KeepsLists}
-use Rattle.top_down_sweep.proofs.StandingOn.{read_still, arcs_still}
-use Rattle.top_down_sweep.proofs.StartKeeps.{moved_file}
+use Rattle.tuple_asks.proofs.Staying.{read_still}
+use Rattle.top_down_sweep.proofs.StandingOn.{arcs_still}
+use Rattle.tuple_asks.proofs.StartKeeps.{moved_file}
 use Rattle.top_down_laws.specs.Readings.{Readings}
 
 module _ (q : Machine) (sound : IsSoundMachine q) (old new : World)

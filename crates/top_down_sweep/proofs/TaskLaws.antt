@@ -6,9 +6,9 @@ use Rattle.canon_file.specs.Canon.{canon_nodes, canon_root, canon_bytes}
 use Rattle.canon_file.specs.Laws.{HasForm}
 use Rattle.node_file.specs.Nodes.{HasNodes}
 use Rattle.top_down_laws.specs.Operations.{canon_diagrams}
-use Rattle.top_down_sweep.specs.declared.start.Files.{Files}
+use Rattle.tuple_asks.specs.declared.files.Files.{Files}
 use Rattle.top_down.specs.declared.tuple.Tuple.{Tuple}
-use Rattle.top_down_sweep.specs.Meaning.{IsNodeFile, AreNodeFiles}
+use Rattle.tuple_asks.specs.Readings.{IsNodeFile, AreNodeFiles}
 use Rattle.node_file.specs.Canonical.{IsCanonicalFile}
 use Rattle.top_down_sweep.specs.Tasks.{AreCanonicalFiles}
 

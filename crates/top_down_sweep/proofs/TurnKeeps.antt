@@ -22,16 +22,16 @@ use Rattle.top_down_laws.specs.Remains as laws
 use Rattle.top_down_laws.specs.Laws.{IsWhole, unread_all, task_table}
 use Rattle.top_down_laws.proofs.StartLaws.{constant_ends, root_is_asked, in_any_order}
 use Rattle.top_down_laws.proofs.EndLaws.{nothing_waits}
-use Rattle.top_down_sweep.specs.declared.ask.Members.{Members}
-use Rattle.top_down_sweep.specs.declared.ask.Ask.{Ask}
-use Rattle.top_down_sweep.specs.declared.place.Asking.{Asking}
-use Rattle.top_down_sweep.specs.declared.place.Phase.{Phase}
-use Rattle.top_down_sweep.specs.declared.place.Phase.TheVariants as phases
+use Rattle.tuple_asks.specs.declared.ask.Members.{Members}
+use Rattle.tuple_asks.specs.declared.ask.Ask.{Ask}
+use Rattle.tuple_asks.specs.declared.place.Asking.{Asking}
+use Rattle.tuple_asks.specs.declared.place.Phase.{Phase}
+use Rattle.tuple_asks.specs.declared.place.Phase.TheVariants as phases
 use Rattle.top_down_sweep.specs.declared.machine.Machine.{Machine}
 use Rattle.top_down.specs.Rules.{Rule}
 use Rattle.top_down_laws.specs.Forms.{least}
-use Rattle.top_down_sweep.specs.Members.{want, all_filled, all_waiting, on_side}
-use Rattle.top_down_sweep.specs.Soundness.{identifier, next_numbered, known}
+use Rattle.tuple_asks.specs.Members.{want, all_filled, all_waiting, on_side}
+use Rattle.tuple_asks.specs.Soundness.{identifier, next_numbered, known}
 use Rattle.top_down_sweep.specs.Meaning.{Task, waiting_of, Contents, StandsFor, IsLeft, IsWorking, IsHandling, IsFresh, first_contents, AreFilesOf, IsDone, RemainsIn, RemainsOf, WorksIn, WorksOn, IsMadeWhere}
 use Rattle.top_down_sweep.specs.Changes.{ShowsAsk, JoinAsks, AsksInstead, ServesSide, side_asks, goal_below, ask_for}
 use Rattle.top_down_sweep.specs.Sweeps.{made_at}

@@ -19,15 +19,16 @@ use Rattle.top_down_laws.specs.Remains as laws
 use Rattle.top_down_laws.specs.Laws.{unread_all}
 use Rattle.top_down_laws.specs.Turns.{stages, unread_count, owed, sides_count, IsCounted}
 use Rattle.top_down_laws.proofs.TurnCounts.{three_stages, turns_are_few}
-use Rattle.top_down_sweep.specs.declared.ask.Ask.{Ask}
-use Rattle.top_down_sweep.specs.declared.operand.Operand.{Operand}
-use Rattle.top_down_sweep.specs.declared.place.Numbered.{Numbered}
-use Rattle.top_down_sweep.specs.declared.place.Asking.{Asking}
-use Rattle.top_down_sweep.specs.declared.place.Phase.TheVariants as phases
+use Rattle.tuple_asks.specs.declared.ask.Ask.{Ask}
+use Rattle.tuple_asks.specs.declared.operand.Operand.{Operand}
+use Rattle.tuple_asks.specs.declared.place.Numbered.{Numbered}
+use Rattle.tuple_asks.specs.declared.place.Asking.{Asking}
+use Rattle.tuple_asks.specs.declared.place.Phase.TheVariants as phases
 use Rattle.top_down_sweep.specs.declared.machine.Machine.{Machine}
-use Rattle.top_down_sweep.specs.Items.{ask_words, IsAsk, ask_cmp}
+use Rattle.tuple_asks.specs.Items.{ask_words, IsAsk, ask_cmp}
 use Rattle.top_down_sweep.specs.Fuel.{unread}
-use Rattle.top_down_sweep.specs.Meaning.{Task, waiting_of, numbered_of, place_of, Contents, IsReadOf, StandsFor, IsLeft, IsWorking}
+use Rattle.top_down_sweep.specs.Meaning.{Task, waiting_of, numbered_of, place_of, Contents, StandsFor, IsLeft, IsWorking}
+use Rattle.tuple_asks.specs.Readings.{IsReadOf}
 use Rattle.top_down_sweep.specs.Turns.{form_in, owed_by, sides_at, left_at, HasFewer}
 use Rattle.top_down_sweep.proofs.WorkingOn.{CountedAt, StepsTo}
 

@@ -23,17 +23,18 @@ use Rattle.top_down_laws.proofs.ReadTurns.{wanted_is_read, ask_is_read_on}
 use Rattle.top_down_laws.proofs.KnownTurn.{known_is_answered}
 use Rattle.top_down_laws.proofs.NewTurn.{new_is_numbered}
 use Rattle.top_down_laws.proofs.SoundLaws.{asks_are_sound}
-use Rattle.top_down_sweep.specs.declared.ask.Ask.{Ask}
-use Rattle.top_down_sweep.specs.declared.place.Numbered.{Numbered}
-use Rattle.top_down_sweep.specs.declared.place.Asking.{Asking}
-use Rattle.top_down_sweep.specs.declared.place.Phase.TheVariants as phases
+use Rattle.tuple_asks.specs.declared.ask.Ask.{Ask}
+use Rattle.tuple_asks.specs.declared.place.Numbered.{Numbered}
+use Rattle.tuple_asks.specs.declared.place.Asking.{Asking}
+use Rattle.tuple_asks.specs.declared.place.Phase.TheVariants as phases
 use Rattle.top_down_sweep.specs.declared.machine.Machine.{Machine}
-use Rattle.top_down_sweep.specs.Items.{ask_cmp}
+use Rattle.tuple_asks.specs.Items.{ask_cmp}
 use Rattle.top_down_laws.specs.Forms.{least}
-use Rattle.top_down_sweep.specs.Members.{want, all_filled, all_waiting, wants}
-use Rattle.top_down_sweep.specs.Soundness.{identifier, is_due, next_numbered}
+use Rattle.tuple_asks.specs.Members.{want, all_filled, all_waiting, wants}
+use Rattle.tuple_asks.specs.Soundness.{identifier, is_due, next_numbered}
 use Rattle.top_down_sweep.specs.Meaning.{Task, form_of, waiting_of, numbered_of, place_of, Contents, StandsFor, IsLeft, IsWorking, WorksIn, WorksOn}
-use Rattle.top_down_sweep.specs.Changes.{side_asks, goal_below, HasNext}
+use Rattle.top_down_sweep.specs.Changes.{side_asks, goal_below}
+use Rattle.tuple_asks.specs.Readings.{HasNext}
 use Rattle.top_down_sweep.proofs.StandingOn.{asks_ascend}
 use Rattle.top_down_sweep.proofs.FormsOf.{SameHands, row_wants, form_wants, form_next, form_again, form_goal, side_waiting, form_numbered, first_next}
 

@@ -9,14 +9,16 @@ use Rattle.sweep_core.specs.Accounts.{Leaves}
 use Rattle.sweep_core.specs.Sweeps.{IsFirm}
 use Rattle.top_down.specs.declared.tuple.Tuple.{Tuple}
 use Rattle.top_down.specs.Rules.{Rule}
-use Rattle.top_down_sweep.specs.declared.ask.Ask.{Ask}
-use Rattle.top_down_sweep.specs.declared.place.Phase.{Phase}
-use Rattle.top_down_sweep.specs.declared.place.Phase.TheVariants.{Fresh, Asking, Ended}
+use Rattle.tuple_asks.specs.declared.ask.Ask.{Ask}
+use Rattle.tuple_asks.specs.declared.place.Phase.{Phase}
+use Rattle.tuple_asks.specs.declared.place.Phase.TheVariants.{Fresh, Asking, Ended}
 use Rattle.top_down_sweep.specs.declared.machine.Machine.{Machine}
 use Rattle.top_down_sweep.specs.declared.sweep.TopDownSweep.{TopDownSweep}
-use Rattle.top_down_sweep.specs.Items.{IsAsk, ask_cmp}
-use Rattle.top_down_sweep.specs.Knowing.{FileBytes, bytes_in, StaysKnown}
-use Rattle.top_down_sweep.specs.Waiting.{AreApart, HasNoHands, HoldsSome, HoldsFirst}
+use Rattle.tuple_asks.specs.Items.{IsAsk, ask_cmp}
+use Rattle.tuple_asks.specs.Knowing.{FileBytes, StaysKnown}
+use Rattle.top_down_sweep.specs.Knowing.{bytes_in}
+use Rattle.top_down_sweep.specs.Waiting.{AreApart, HoldsSome, HoldsFirst}
+use Rattle.tuple_asks.specs.Operands.{HasNoHands}
 use Rattle.top_down_sweep.specs.Ordered.{AreOrdered, HoldsPut}
 use Rattle.top_down_sweep.specs.Sweeps.{files_in, machine_accounts, IsSoundMachine, Refuses}
 

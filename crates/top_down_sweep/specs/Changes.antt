@@ -1,22 +1,19 @@
 -- What calls change of the lists that a machine stands for.
-use Rattle.std.specs.Prelude.{◌≡◌, ℕ, ◌≤◌, Bool, true, false, List, [], ◌∷◌, ◌++◌, Option, Some, None}
+use Rattle.std.specs.Prelude.{◌≡◌, ℕ, Bool, true, false, List, [], ◌∷◌, ◌++◌, Option, Some, None}
 use Rattle.std.specs.List.Sorted.{IsPermutation}
-use Rattle.rec_words.specs.declared.node.Node.{Node}
 use Rattle.shelf_model.specs.World.{World}
 use Rattle.top_down.specs.declared.tuple.Tuple.{Tuple}
 use Rattle.top_down.specs.declared.tuple.Goal.{Goal}
 use Rattle.top_down.specs.declared.tuple.Goal.TheVariants.{End, Go}
 use Rattle.top_down.specs.Asks.{side_arcs}
 use Rattle.top_down.specs.Rules.{Rule}
-use Rattle.top_down_laws.specs.Readings.{Reading}
-use Rattle.top_down_sweep.specs.declared.ask.Members.{Members}
-use Rattle.top_down_sweep.specs.declared.ask.Ask.{Ask}
-use Rattle.top_down_sweep.specs.declared.operand.Operand.{Operand}
+use Rattle.tuple_asks.specs.declared.ask.Members.{Members}
+use Rattle.tuple_asks.specs.declared.ask.Ask.{Ask}
 use Rattle.top_down_sweep.specs.declared.machine.Machine.{Machine}
 use Rattle.top_down_laws.specs.Forms.{least}
-use Rattle.top_down_sweep.specs.Members.{members_of, on_side}
-use Rattle.top_down_sweep.specs.Soundness.{asker_word}
-use Rattle.top_down_sweep.specs.Meaning.{Contents, IsReadOf, StandsFor}
+use Rattle.tuple_asks.specs.Members.{members_of, on_side}
+use Rattle.tuple_asks.specs.Soundness.{asker_word}
+use Rattle.top_down_sweep.specs.Meaning.{Contents, StandsFor}
 
 -- the first ask is shown, and stays; None is answered where none waits
 abbrev pub ShowsAsk : Machine → World → Contents → Option Ask → Type 0
@@ -55,15 +52,3 @@ goal_below rule level side m = rule.goal (rule.below level side (on_side false m
 abbrev pub ServesSide : Machine → World → Contents → ℕ → Bool → Goal → Type 0
 ServesSide m world k s side goal = JoinAsks m world (record k { ends = k.ends ++ side_arcs s side goal })
     (side_asks s side goal)
-
--- a node no later than the key is the next one
-pub record HasNext (key : ℕ) (r : Reading) : Type 0 where
-  pub node : Node
-  pub unread : List Node
-  pub are : r.unread ≡ unread ++ node ∷ []
-  pub upto : node.uid ≤ key
-
--- of the nodes that weren't read the last one was read, and is at hand
-abbrev pub ReadsNext : Operand → World → Reading → Type 0
-ReadsNext o world r = (x : Node) × (unread : List Node) × (r.unread ≡ unread ++ x ∷ [])
-    × IsReadOf o world (record { hand = Some x; unread = unread })

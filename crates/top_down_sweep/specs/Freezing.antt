@@ -14,9 +14,9 @@ use Rattle.level_queue.specs.Tables.{AreTables, AreTidyTables, ServeTables, AreF
 use Rattle.sweep_core.specs.Carries.{Carries}
 use Rattle.sweep_core.specs.Sweeps.{IsNoDamage}
 use Rattle.top_down_sweep.specs.declared.machine.Machine.{Machine}
-use Rattle.top_down_sweep.specs.Items.{ask_words, IsAsk, ask_cmp}
+use Rattle.tuple_asks.specs.Items.{ask_words, IsAsk, ask_cmp}
 use Rattle.top_down_sweep.specs.Sweeps.{machine_accounts, Refuses}
-use Rattle.top_down_sweep.specs.Knowing.{FileBytes}
+use Rattle.tuple_asks.specs.Knowing.{FileBytes}
 use Rattle.top_down_sweep.specs.Waiting.{HoldsSome}
 use Rattle.top_down_sweep.specs.Ordered.{KeepsArcs}
 use Rattle.top_down_sweep.specs.Meaning.{Contents, StandsFor, AreFilesOf}

@@ -18,12 +18,13 @@ use Rattle.top_down_laws.specs.Forms.{member_at}
 use Rattle.top_down_laws.specs.Readings.{IsIn, IsReduced, IsReading, Reading, Readings, AreReadings}
 use Rattle.top_down_laws.specs.Remains as laws
 use Rattle.top_down_laws.proofs.MemberLaws.{row_at-node, node_in, hand_in}
-use Rattle.top_down_sweep.specs.declared.ask.Member.{Member}
-use Rattle.top_down_sweep.specs.declared.ask.Ask.{Ask}
-use Rattle.top_down_sweep.specs.declared.operand.Operand.{Operand}
-use Rattle.top_down_sweep.specs.declared.operand.Operands.{Operands}
-use Rattle.top_down_sweep.specs.Knowing.{FileBytes, KnowsMember, KnowsMembers, KnowsBelow, KnowsHands}
-use Rattle.top_down_sweep.specs.Meaning.{Task, row_of, waiting_of, IsReadOf, AreRead}
+use Rattle.tuple_asks.specs.declared.ask.Member.{Member}
+use Rattle.tuple_asks.specs.declared.ask.Ask.{Ask}
+use Rattle.tuple_asks.specs.declared.operand.Operand.{Operand}
+use Rattle.tuple_asks.specs.declared.operand.Operands.{Operands}
+use Rattle.tuple_asks.specs.Knowing.{FileBytes, KnowsMember, KnowsMembers, KnowsBelow, KnowsHands}
+use Rattle.top_down_sweep.specs.Meaning.{Task, row_of, waiting_of}
+use Rattle.tuple_asks.specs.Readings.{IsReadOf, AreRead}
 
 -- the files are those of the task's diagrams
 pub record AreOfTask (t : Task) (b : FileBytes) : Type 0 where

@@ -1,9 +1,3 @@
-pub mod Items
-pub mod ItemLaws
-pub mod Rules
-pub mod Deepening
-pub mod Members
-pub mod Soundness
 pub mod Sweeps
 pub mod Fuel
 pub mod Knowing
@@ -17,12 +11,8 @@ pub mod Turns
 pub mod Tasks
 pub mod Beginning
 pub mod Making
-pub mod Operations
 pub mod KnowingLaws
 pub mod Trusting
-pub mod Spellings
-pub mod OperationWords
-pub mod Saved
 pub mod Resumes
 pub mod Rebuilds
 pub mod ResumeLaws

@@ -2,38 +2,33 @@
 use Rattle.std.specs.Prelude.{◌≡◌, ◌==◌, ℕ, List, [], ◌∷◌, map, Bool, true, Option, Some, None, option_map}
 use Rattle.std.specs.List.{list_any}
 use Rattle.rec_words.specs.Words.{terminal}
-use Rattle.rec_words.specs.declared.node.Node.{Node}
 use Rattle.shelf_model.specs.declared.file_no.FileNo.{FileNo}
 use Rattle.shelf_model.specs.World.{World, file}
 use Rattle.canon_file.specs.declared.row.Row.{Row}
 use Rattle.arc_file.specs.declared.arc.Arc.{Arc}
 use Rattle.arc_file.specs.declared.unreduced.Unreduced.{Unreduced}
 use Rattle.arc_file.specs.Writers.{HoldsArcs, IsFileOf}
-use Rattle.node_file.specs.Nodes.{HasNodes}
-use Rattle.node_file.specs.Readers.{trailer_of, AreLeft}
-use Rattle.node_reading.specs.Reading.{bytes_of, IsReading}
 use Rattle.sweep_core.specs.Saving.{reads_of}
 use Rattle.level_queue.specs.Queues as queues
 use Rattle.top_down.specs.declared.tuple.Tuple.{Tuple}
 use Rattle.top_down.specs.Rules.{Rule}
 use Rattle.top_down_laws.specs.Forms.{Form, Waiting}
-use Rattle.top_down_laws.specs.Readings.{Diagrams, Reading, Readings}
+use Rattle.top_down_laws.specs.Readings.{Diagrams, Readings}
 use Rattle.top_down_laws.specs.Remains as laws
 use Rattle.top_down_laws.specs.Laws.{unread_all, task_table, IsWhole}
-use Rattle.top_down_sweep.specs.declared.ask.Member.{Member}
-use Rattle.top_down_sweep.specs.declared.ask.Members.{Members}
-use Rattle.top_down_sweep.specs.declared.ask.Ask.{Ask}
-use Rattle.top_down_sweep.specs.declared.operand.Operand.{Operand}
-use Rattle.top_down_sweep.specs.declared.operand.Operands.{Operands}
-use Rattle.top_down_sweep.specs.declared.place.Numbered.{Numbered}
-use Rattle.top_down_sweep.specs.declared.place.Asking.{Asking}
-use Rattle.top_down_sweep.specs.declared.place.Phase.{Phase}
-use Rattle.top_down_sweep.specs.declared.place.Phase.TheVariants as phases
+use Rattle.tuple_asks.specs.declared.ask.Member.{Member}
+use Rattle.tuple_asks.specs.declared.ask.Members.{Members}
+use Rattle.tuple_asks.specs.declared.ask.Ask.{Ask}
+use Rattle.tuple_asks.specs.declared.place.Numbered.{Numbered}
+use Rattle.tuple_asks.specs.declared.place.Asking.{Asking}
+use Rattle.tuple_asks.specs.declared.place.Phase.{Phase}
+use Rattle.tuple_asks.specs.declared.place.Phase.TheVariants as phases
 use Rattle.top_down_sweep.specs.declared.machine.Machine.{Machine}
-use Rattle.top_down_sweep.specs.declared.start.Files.{Files}
+use Rattle.tuple_asks.specs.declared.files.Files.{Files}
 use Rattle.top_down_sweep.specs.declared.sweep.TopDownSweep.{TopDownSweep}
 use Rattle.top_down_sweep.specs.Sweeps.{files_in, files_of, parts_of, variables_of, IsMade}
 use Rattle.top_down_sweep.specs.Waiting.{Waits, AreApart}
+use Rattle.tuple_asks.specs.Readings.{AreRead, roots_of, HaveNodes}
 
 -- an operation on diagrams of n variables: its rule, the diagrams' nodes, and the tuple of pointers
 -- that it is to be made of
@@ -79,17 +74,6 @@ pub record Contents : Type 0 where
   pub inner : List Arc
   pub ends : List Arc
 
--- the node at hand is that one, and those of the operand's file weren't read
-pub record IsReadOf (o : Operand) (world : World) (r : Reading) : Type 0 where
-  pub hand_is : o.hand ≡ r.hand
-  pub reads : IsReading o.reader world
-  pub left : AreLeft o.reader (bytes_of o.reader world) r.unread
-
-pub record AreRead (o : Operands) (world : World) (r : Readings) : Type 0 where
-  pub first : IsReadOf o.first world r.first
-  pub second : IsReadOf o.second world r.second
-  pub third : IsReadOf o.third world r.third
-
 -- an arc leads to the truth value 1, and one of those of a list does
 abbrev pub leads_to_one : Arc → Bool
 leads_to_one a = a.target == terminal true
@@ -128,14 +112,6 @@ pub record IsHandling (t : Task) (s : Asking) (a : Ask) (m : Machine) (world : W
 -- at first nothing waits, nothing was read, and nothing was put
 abbrev pub first_contents : Task → Contents
 first_contents t = record { asks = []; readings = unread_all t.diagrams; inner = []; ends = [] }
-
--- the roots of the operands' files
-abbrev pub roots_of : Operands → Tuple
-roots_of o = record {
-  first = (trailer_of o.first.reader).root;
-  second = (trailer_of o.second.reader).root;
-  third = (trailer_of o.third.reader).root;
-}
 
 -- nothing is done of the task, which begins with the operands' roots
 pub record IsFresh (t : Task) (begins : Tuple → Tuple) (m : Machine) (world : World) : Type 0 where
@@ -181,31 +157,6 @@ WorksOn t m world = WorksIn t m.place.phase m world
 abbrev pub IsMadeWhere : Task → World → Option Unreduced → Type 0
 IsMadeWhere t world None = Unit
 IsMadeWhere t world (Some made) = IsMadeOf t world made
-
--- the file is that of these nodes, with that root
-abbrev pub IsNodeFile : FileNo → World → ℕ → ℕ → List Node → Type 0
-IsNodeFile f world n root nodes = HasNodes n root nodes (file world f).bytes
-
--- so are the operands' files, by what they hold, those of the diagrams
-pub record HaveNodes (files : Files) (r : FileNo → List ℕ) (n : ℕ) (roots : Tuple) (d : Diagrams) : Type 0
-  where
-    pub first : HasNodes n roots.first d.first (r files.first)
-    pub second : HasNodes n roots.second d.second (r files.second)
-    pub third : HasNodes n roots.third d.third (r files.third)
-
--- so they are in that world
-abbrev pub AreNodeFiles : Files → World → ℕ → Tuple → Diagrams → Type 0
-AreNodeFiles files world n roots d = HaveNodes files (reads_of world) n roots d
-
--- nothing was read of an operand that has these nodes, and that root
-pub record IsUnread (o : Operand) (world : World) (root : ℕ) (nodes : List Node) : Type 0 where
-  pub root_is : (trailer_of o.reader).root ≡ root
-  pub read : IsReadOf o world (record { hand = None; unread = nodes })
-
--- nor of those that have the diagrams' nodes, and these roots
-pub record AreUnread (o : Operands) (world : World) (roots : Tuple) (d : Diagrams) : Type 0 where
-  pub roots_are : roots_of o ≡ roots
-  pub read : AreRead o world (unread_all d)
 
 -- the operation of that rule on these files is the task: by what they hold the files are those of its
 -- diagrams, and none of those that the sweep writes

@@ -9,14 +9,14 @@ use Rattle.arc_file.specs.declared.writer.ArcWriter.{ArcWriter}
 use Rattle.arc_file.specs.Files.{Leads, IsInnerOrder, IsEndOrder, HasArcs}
 use Rattle.arc_file.specs.Writers.{HoldsArcs}
 use Rattle.level_queue.specs.Queues.{last_of}
-use Rattle.top_down_sweep.specs.declared.ask.Ask.{Ask}
-use Rattle.top_down_sweep.specs.declared.place.Numbered.{Numbered}
-use Rattle.top_down_sweep.specs.declared.place.Asking.{Asking}
-use Rattle.top_down_sweep.specs.declared.place.Phase.{Phase}
-use Rattle.top_down_sweep.specs.declared.place.Phase.TheVariants as phases
+use Rattle.tuple_asks.specs.declared.ask.Ask.{Ask}
+use Rattle.tuple_asks.specs.declared.place.Numbered.{Numbered}
+use Rattle.tuple_asks.specs.declared.place.Asking.{Asking}
+use Rattle.tuple_asks.specs.declared.place.Phase.{Phase}
+use Rattle.tuple_asks.specs.declared.place.Phase.TheVariants as phases
 use Rattle.top_down_sweep.specs.declared.machine.Machine.{Machine}
-use Rattle.top_down_sweep.specs.Items.{ask_cmp}
-use Rattle.top_down_sweep.specs.Soundness.{asker_word, identifier}
+use Rattle.tuple_asks.specs.Items.{ask_cmp}
+use Rattle.tuple_asks.specs.Soundness.{asker_word, identifier}
 
 -- the two files have arcs, each in the order of its file
 pub record AreOrdered (made : Unreduced) (world : World) : Type 0 where

@@ -23,16 +23,18 @@ use Rattle.sweep_core.specs.Saving.{IsMadePart, IsReadPart, IsRestingPlace}
 use Rattle.sweep_core.specs.Tables as core
 use Rattle.top_down.specs.declared.tuple.Tuple.{Tuple}
 use Rattle.top_down.specs.Rules.{Rule}
-use Rattle.top_down_sweep.specs.declared.ask.Ask.{Ask}
-use Rattle.top_down_sweep.specs.declared.place.Asking.{Asking}
-use Rattle.top_down_sweep.specs.declared.saved.SavedMachine.{SavedMachine}
-use Rattle.top_down_sweep.specs.Items.{ask_words, IsAsk, ask_cmp}
+use Rattle.tuple_asks.specs.declared.ask.Ask.{Ask}
+use Rattle.tuple_asks.specs.declared.place.Asking.{Asking}
+use Rattle.tuple_asks.specs.declared.saved.SavedMachine.{SavedMachine}
+use Rattle.tuple_asks.specs.Items.{ask_words, IsAsk, ask_cmp}
 use Rattle.top_down_sweep.specs.Meaning.{Task, IsTaskOver}
-use Rattle.top_down_sweep.specs.Resumes.{Holds, saved_files, table_in, queue_tables, KeepsRules, HasQueue, Fits}
+use Rattle.top_down_sweep.specs.Resumes.{Holds, queue_tables, HasQueue, Fits}
+use Rattle.tuple_asks.specs.Resuming.{saved_files}
+use Rattle.tuple_asks.specs.SavedRules.{table_in, KeepsRules}
 use Rattle.top_down_sweep.specs.Resumes.{IsRest, RestsOn, Shows, GoesOnAt, GoesOn, StandsFor}
 use Rattle.top_down_sweep.specs.Resumes.{OnOperand, OnInner, OnEnds, OnRun}
-use Rattle.top_down_sweep.specs.Saved.{machine_spelling}
-use Rattle.top_down_sweep.specs.Sweeps.{IsRead}
+use Rattle.tuple_asks.specs.Saved.{machine_spelling}
+use Rattle.tuple_asks.specs.Operands.{IsRead}
 use Rattle.top_down_sweep.specs.Turns.{Work}
 
 -- bytes that begin with arcs do where they are the same up to the arcs' end

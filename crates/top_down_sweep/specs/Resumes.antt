@@ -1,69 +1,42 @@
 -- The rules of the checkpoints of sweeps from the root down, what these rest on, and what they stand for.
-use Rattle.std.specs.Prelude.{◌≡◌, ◌≢◌, ◌⊎◌, ℕ, ◌+◌, ◌-◌, ◌*◌, ◌/◌, ◌^◌, ◌<◌, ◌≤◌, false, List, [], ◌∷◌, length, take, map}
-use Rattle.std.specs.Prelude.{slice_get, slice_index_or, Option, Some, None, IfSome}
-use Rattle.std.specs.List.{Any}
-use Rattle.rec_words.specs.Words.{node_size, terminal}
-use Rattle.rec_words.specs.declared.node.Node.{Node}
+use Rattle.std.specs.Prelude.{◌≡◌, ℕ, ◌+◌, ◌-◌, ◌*◌, ◌/◌, ◌≤◌, List, [], ◌∷◌, length, map, Option, Some, None}
 use Rattle.shelf_model.specs.declared.file_no.FileNo.{FileNo}
-use Rattle.shelf_model.specs.declared.fault.StreamFault.TheVariants as stream
 use Rattle.shelf_model.specs.declared.sort_fault.SortFault.{SortFault}
-use Rattle.shelf_model.specs.declared.sort_fault.SortFault.TheVariants.{Shelf, Damaged, RunsSpent}
-use Rattle.shelf_model.specs.Calls.{longest}
 use Rattle.shelf_model.specs.World.{World}
-use Rattle.file_numbers.specs.Files.{inner_part}
 use Rattle.arc_file.specs.declared.arc.Arc.{Arc}
-use Rattle.arc_file.specs.declared.unreduced.Unreduced.{Unreduced}
 use Rattle.arc_file.specs.Arcs.{arc_size}
 use Rattle.arc_file.specs.Files.{BeginWith}
-use Rattle.arc_file.specs.Writers.{IsShortOfEither}
-use Rattle.node_reading.specs.declared.resuming.Unread.{Unread}
-use Rattle.node_reading.specs.Reading.{count_of, IsDamagedNode, IsTrailerFault}
-use Rattle.node_reading.specs.Resuming.{IsPlaceFault}
-use Rattle.run_tiers.specs.declared.run.Run.{Run}
+use Rattle.node_reading.specs.Reading.{count_of}
 use Rattle.run_tiers.specs.declared.run.RunTable.{RunTable}
-use Rattle.run_tiers.specs.Tables.{IsInUse}
 use Rattle.run_tiers.specs.declared.parts.Parts.{Parts}
 use Rattle.level_queue.specs.Tables.{AreTables, ServeTables, IsBeforeAnyEnd, TablesShow}
 use Rattle.saved_words.specs.declared.carried.Carried.{Ghosts}
 use Rattle.saved_words.specs.Fronts.{IsFront}
 use Rattle.saved_words.specs.Joined.{pair_words, IsPair}
 use Rattle.sweep_core.specs.declared.checkpoint.Checkpoint.{Checkpoint}
-use Rattle.sweep_core.specs.Saving.{Saving, IsMadePart, IsReadPart, reads_of}
+use Rattle.sweep_core.specs.Saving.{Saving}
 use Rattle.top_down.specs.declared.tuple.Tuple.{Tuple}
 use Rattle.top_down.specs.Rules.{Rule}
-use Rattle.top_down_laws.specs.Readings.{Diagrams, Reading, Readings}
+use Rattle.top_down_laws.specs.Readings.{Diagrams}
 use Rattle.top_down_laws.specs.Turns.{unread_count, owed}
-use Rattle.top_down_sweep.specs.declared.ask.Ask.{Ask}
-use Rattle.top_down_sweep.specs.declared.place.Numbered.{Numbered}
-use Rattle.top_down_sweep.specs.declared.place.Asking.{Asking}
-use Rattle.top_down_sweep.specs.declared.saved.SavedOperand.{SavedOperand}
-use Rattle.top_down_sweep.specs.declared.saved.SavedArcs.{SavedArcs}
-use Rattle.top_down_sweep.specs.declared.saved.SavedMachine.{SavedMachine}
-use Rattle.top_down_sweep.specs.declared.start.Files.{Files}
-use Rattle.top_down_sweep.specs.Items.{ask_words, IsAsk, ask_cmp}
+use Rattle.tuple_asks.specs.declared.ask.Ask.{Ask}
+use Rattle.tuple_asks.specs.declared.place.Numbered.{Numbered}
+use Rattle.tuple_asks.specs.declared.place.Asking.{Asking}
+use Rattle.tuple_asks.specs.declared.saved.SavedArcs.{SavedArcs}
+use Rattle.tuple_asks.specs.declared.saved.SavedMachine.{SavedMachine}
+use Rattle.tuple_asks.specs.Items.{ask_words, IsAsk, ask_cmp}
 use Rattle.top_down_sweep.specs.Meaning.{Task, waiting_of, some_one, IsLeft, IsTaskOver}
-use Rattle.top_down_sweep.specs.Saved.{machine_spelling}
-use Rattle.top_down_sweep.specs.Sweeps.{SweepTask, IsRead}
+use Rattle.tuple_asks.specs.Saved.{machine_spelling}
+use Rattle.top_down_sweep.specs.Sweeps.{SweepTask}
+use Rattle.tuple_asks.specs.Operands.{IsRead}
 use Rattle.top_down_sweep.specs.Turns.{Work}
+use Rattle.tuple_asks.specs.Resuming.{saved_files, readings_at, AreAmong, IsCause}
+use Rattle.tuple_asks.specs.SavedRules.{table_in, KeepsRules}
 
 -- the first words of the checkpoint are those of a machine, and of an operation
 abbrev pub Holds : {O : Type 0} → Ghosts O → Checkpoint → SavedMachine → O → Type 0
 Holds o c m operation = IsFront (machine_spelling.count + o.count) (pair_words machine_spelling.words o.words)
     (IsPair machine_spelling.is_value o.is_value) (m, operation) c.carry
-
--- the files of the machine
-abbrev pub saved_files : SavedMachine → Files
-saved_files m = record {
-  first = m.first.file;
-  second = m.second.file;
-  third = m.third.file;
-  inner = m.arcs.inner;
-  ends = m.arcs.ends;
-}
-
--- the first three tables of the checkpoint, which are the queue's
-abbrev pub table_in : Checkpoint → ℕ → RunTable
-table_in c k = record { runs = slice_index_or c.runs k [] }
 
 abbrev pub queue_tables : Checkpoint → List RunTable
 queue_tables c = table_in c 0 ∷ table_in c 1 ∷ table_in c 2 ∷ []
@@ -71,49 +44,6 @@ queue_tables c = table_in c 0 ∷ table_in c 1 ∷ table_in c 2 ∷ []
 -- the part numbers that no sweep of the step had taken
 abbrev pub parts_at : Checkpoint → Parts
 parts_at c = record { step = c.step; next = c.next_part }
-
--- the operand is a file that the step may read, of no more nodes than the longest file has, and none of the files of
--- arcs
-pub record IsSavedOperand (c : Checkpoint) (a : SavedArcs) (o : SavedOperand) : Type 0 where
-  pub other : IsReadPart c.step c.next_part o.file
-  pub not_inner : o.file ≢ a.inner
-  pub not_ends : o.file ≢ a.ends
-  pub few : IfSome o.read (λ place. place * node_size ≤ longest)
-
--- before the root is asked for, no ask was taken; and the numbers of a level are no more than the arcs to nodes
-abbrev pub IsSavedPhase : SavedArcs → Option Ask → Option Asking → Type 0
-IsSavedPhase a taken None = taken ≡ None
-IsSavedPhase a taken (Some s) = IfSome s.last (λ x. x.number ≤ a.inner_count)
-
--- two files of the step are made, which are no runs, and neither has more arcs than the longest file
-pub record AreSavedArcs (c : Checkpoint) (a : SavedArcs) : Type 0 where
-  pub parts : inner_part ≤ c.next_part
-  pub inner_made : IsMadePart c.step c.next_part a.inner
-  pub ends_made : IsMadePart c.step c.next_part a.ends
-  pub two_files : a.inner ≢ a.ends
-  pub inner_few : a.inner_count ≤ 2 ^ 46
-  pub ends_few : a.ends_count ≤ 2 ^ 46
-
--- the file is that of a run of a step of which records are left, and of one of several
-abbrev pub IsOfRun : ℕ → FileNo → Run → Type 0
-IsOfRun step f r = IsInUse r × (f ≡ record { step = step; part = r.part })
-
-abbrev pub IsOfRuns : ℕ → List Run → FileNo → Type 0
-IsOfRuns step runs f = Any (IsOfRun step f) runs
-
--- no file of arcs is a run of the queue
-pub record AreNoRuns (c : Checkpoint) (a : SavedArcs) : Type 0 where
-  pub inner : ¬ IsOfRuns c.step (table_in c 0).runs a.inner
-  pub ends : ¬ IsOfRuns c.step (table_in c 0).runs a.ends
-
--- these are the files of arcs, the operands and where the sweep stands
-pub record KeepsRules (c : Checkpoint) (m : SavedMachine) : Type 0 where
-  pub arcs : AreSavedArcs c m.arcs
-  pub no_runs : AreNoRuns c m.arcs
-  pub first : IsSavedOperand c m.arcs m.first
-  pub second : IsSavedOperand c m.arcs m.second
-  pub third : IsSavedOperand c m.arcs m.third
-  pub phase : IsSavedPhase m.arcs m.taken m.asking
 
 -- it has the three tables of a queue, which its parts can serve
 pub record HasQueue (c : Checkpoint) : Type 0 where
@@ -141,27 +71,6 @@ pub record RestsOn {O : Type 0} (o : Ghosts O) (c : Checkpoint) (f : FileNo) (n 
   pub operation : O
   pub holds : Holds o c saved operation
   pub rests : IsRest c saved f n
-
--- how far an operand was read that has these nodes: not at all, or so many nodes before the one at hand weren't
-abbrev pub reading_at : List Node → Option ℕ → Reading
-reading_at nodes None = record { hand = None; unread = nodes }
-reading_at nodes (Some place) = record { hand = slice_get nodes place; unread = take place nodes }
-
-abbrev pub readings_at : Diagrams → SavedMachine → Readings
-readings_at d m = record {
-  first = reading_at d.first m.first.read;
-  second = reading_at d.second m.second.read;
-  third = reading_at d.third m.third.read;
-}
-
--- the node at hand is one of the nodes
-abbrev pub IsAmong : List Node → Option ℕ → Type 0
-IsAmong nodes read = IfSome read (λ place. place < length nodes)
-
-pub record AreAmong (d : Diagrams) (m : SavedMachine) : Type 0 where
-  pub first : IsAmong d.first m.first.read
-  pub second : IsAmong d.second m.second.read
-  pub third : IsAmong d.third m.third.read
 
 -- where the files hold this, these asks wait, and these arcs were put
 pub record Shows (c : Checkpoint) (m : SavedMachine) (r : FileNo → List ℕ) (asks : List Ask) (inner ends : List Arc)
@@ -235,10 +144,6 @@ pub record NamesAll {O : Type 0} (o : Ghosts O) (c : Checkpoint) (operation : O)
   pub files_are : saved_files saved ≡ task.files
   pub variables_are : saved.variables ≡ task.variables
 
--- no more calls than these read on in an operand of these bytes
-abbrev pub operand_calls : List ℕ → ℕ
-operand_calls bytes = 5 + count_of bytes / 8
-
 -- an eighth of the nodes of the operands
 abbrev pub reading_calls : SweepTask → (FileNo → List ℕ) → ℕ
 reading_calls task r = (count_of (r task.files.first) + count_of (r task.files.second) + count_of (r task.files.third)) / 8
@@ -254,44 +159,6 @@ top_saving o rule begins = record {
   reading = λ task. reading_calls task.0;
   stands = λ c text r w turns. StandsFor o rule begins c r w.task (length w.tuples) turns;
 }
-
--- the place from which an operand's nodes are given again: before the one at hand
-abbrev pub behind_hand : FileNo → ℕ → Unread
-behind_hand f place = record { file = f; place = place + 1 }
-
--- the node at hand is damaged
-abbrev pub IsHandFault : ℕ → FileNo → (FileNo → List ℕ) → SortFault → Type 0
-IsHandFault n file r Shelf = Unit
-IsHandFault n file r (Damaged f at) = (f ≡ file) × IsDamagedNode n (r file) at
-IsHandFault n file r RunsSpent = ⊥
-
--- an operand can't be read from where it was read
-abbrev pub IsOperandFault : ℕ → ℕ → FileNo → Option ℕ → World → SortFault → Type 0
-IsOperandFault n step file None world e = IsTrailerFault file n world e
-IsOperandFault n step file (Some place) world e = IsPlaceFault n step (behind_hand file place) (reads_of world) e
-    ⊎ IsHandFault n file (reads_of world) e
-
--- a file of arcs is shorter than it was
-abbrev pub arcs_of : SavedArcs → Unreduced
-arcs_of a = record {
-  root = terminal false;
-  inner = a.inner;
-  inner_count = a.inner_count;
-  ends = a.ends;
-  ends_count = a.ends_count;
-}
-
-abbrev pub IsArcsFault : SavedArcs → World → SortFault → Type 0
-IsArcsFault a world Shelf = Unit
-IsArcsFault a world (Damaged f at) = IsShortOfEither (arcs_of a) world (stream.Damaged f at)
-IsArcsFault a world RunsSpent = ⊥
-
--- one of them is the cause that a sweep isn't rebuilt
-pub data IsCause (step : ℕ) (m : SavedMachine) (world : World) (e : SortFault) : Type 0 where
-  OfFirst : IsOperandFault m.variables step m.first.file m.first.read world e → IsCause step m world e
-  OfSecond : IsOperandFault m.variables step m.second.file m.second.read world e → IsCause step m world e
-  OfThird : IsOperandFault m.variables step m.third.file m.third.read world e → IsCause step m world e
-  OfArcs : IsArcsFault m.arcs world e → IsCause step m world e
 
 pub record Blames {O : Type 0} (o : Ghosts O) (c : Checkpoint) (world : World) (e : SortFault) : Type 0 where
   pub saved : SavedMachine

@@ -1,15 +1,11 @@
 -- What is seen of a sweep from the root down, and what it keeps between turns.
-use Rattle.std.specs.Prelude.{◌≡◌, ◌⊎◌, ℕ, ◌==◌, ◌||◌, ◌^◌, ◌≤◌, Bool, true, false, Option, Some, None, IsSome, IfSome}
+use Rattle.std.specs.Prelude.{◌≡◌, ◌⊎◌, ℕ, ◌==◌, ◌||◌, ◌^◌, ◌≤◌, Bool, true, false, Option, Some, None, IsSome}
+use Rattle.std.specs.Prelude.{IfSome}
 use Rattle.file_numbers.specs.Files.{checkpoint_file}
 use Rattle.shelf_model.specs.declared.file_no.FileNo.{FileNo}
 use Rattle.shelf_model.specs.declared.sort_fault.SortFault.{SortFault}
 use Rattle.shelf_model.specs.declared.sort_fault.SortFault.TheVariants.{Shelf, Damaged, RunsSpent}
 use Rattle.rec_words.specs.Words.{level_of, terminal}
-use Rattle.canon_file.specs.NodeFiles.{IsProper}
-use Rattle.rec_words.specs.declared.node.Node.{Node}
-use Rattle.node_file.specs.declared.reader.NodeReader.{NodeReader}
-use Rattle.node_file.specs.Readers as nodes
-use Rattle.node_reading.specs.Reading.{IsBegun}
 use Rattle.arc_file.specs.declared.unreduced.Unreduced.{Unreduced}
 use Rattle.arc_file.specs.declared.writer.ArcWriter.{ArcWriter}
 use Rattle.arc_file.specs.Writers as arcs
@@ -19,15 +15,14 @@ use Rattle.level_queue.specs.Queues as queues
 use Rattle.sweep_core.specs.Accounts.{Accounts, CanBeTaken}
 use Rattle.sweep_core.specs.declared.turn.Turn.{Turn}
 use Rattle.sweep_core.specs.declared.turn.Turn.TheVariants as turn
-use Rattle.top_down_sweep.specs.declared.ask.Ask.{Ask}
-use Rattle.top_down_sweep.specs.declared.operand.Operand.{Operand}
-use Rattle.top_down_sweep.specs.declared.operand.Operands.{Operands}
-use Rattle.top_down_sweep.specs.declared.place.Phase.{Phase}
-use Rattle.top_down_sweep.specs.declared.place.Phase.TheVariants.{Fresh, Asking, Ended}
+use Rattle.tuple_asks.specs.declared.ask.Ask.{Ask}
+use Rattle.tuple_asks.specs.declared.place.Phase.{Phase}
+use Rattle.tuple_asks.specs.declared.place.Phase.TheVariants.{Fresh, Asking, Ended}
 use Rattle.top_down_sweep.specs.declared.machine.Machine.{Machine}
-use Rattle.top_down_sweep.specs.declared.start.Files.{Files}
+use Rattle.tuple_asks.specs.declared.files.Files.{Files}
 use Rattle.top_down_sweep.specs.declared.sweep.TopDownSweep.{TopDownSweep}
-use Rattle.top_down_sweep.specs.Items.{ask_words, IsAsk}
+use Rattle.tuple_asks.specs.Items.{ask_words, IsAsk}
+use Rattle.tuple_asks.specs.Operands.{IsRead, AreOperands}
 
 -- its files
 abbrev pub files_in : Machine → Files
@@ -47,19 +42,9 @@ pub record SweepTask : Type 0 where
 abbrev pub task_in : Machine → SweepTask
 task_in m = record { files = files_in m; variables = m.place.variables }
 
--- the operands are read from those files
-pub record HaveFiles (files : Files) (o : Operands) : Type 0 where
-  pub first_is : o.first.file ≡ files.first
-  pub second_is : o.second.file ≡ files.second
-  pub third_is : o.third.file ≡ files.third
-
 -- it makes the two files of arcs
 abbrev pub IsMade : Files → FileNo → Type 0
 IsMade files f = (f ≡ files.inner) ⊎ (f ≡ files.ends)
-
--- it reads the operands
-abbrev pub IsRead : Files → FileNo → Type 0
-IsRead files f = (f ≡ files.first) ⊎ ((f ≡ files.second) ⊎ (f ≡ files.third))
 
 abbrev pub machine_accounts : Accounts Machine
 machine_accounts = record {
@@ -69,25 +54,6 @@ machine_accounts = record {
   credit = λ m. queues.credit m.queue;
   stock = λ m. queues.stock m.queue;
 }
-
--- the node at hand is the one that was given last; while there is none, all nodes are left
-abbrev pub IsGivenAt : NodeReader → Option Node → Type 0
-IsGivenAt r None = nodes.left_of r ≡ (nodes.trailer_of r).count
-IsGivenAt r (Some x) = nodes.given_of r ≡ Some x.uid
-
--- the operand's reader reads its file, and the node at hand may stand there
-pub record IsOperand (n : ℕ) (o : Operand) : Type 0 where
-  pub file_is : nodes.file_of o.reader ≡ o.file
-  pub variables_are : (nodes.trailer_of o.reader).n ≡ n
-  pub hand_is : IfSome o.hand (IsProper n)
-  pub given_is : IsGivenAt o.reader o.hand
-  pub begun : IsBegun o.reader
-
--- all three are
-pub record AreOperands (n : ℕ) (o : Operands) : Type 0 where
-  pub first : IsOperand n o.first
-  pub second : IsOperand n o.second
-  pub third : IsOperand n o.third
 
 -- the queue holds asks, its runs have parts that were taken, and the files of arcs have none that can be taken, and are
 -- no runs
@@ -124,12 +90,6 @@ abbrev pub Refuses : Machine → SortFault → Type 0
 Refuses m Shelf = Unit
 Refuses m (Damaged f at) = IsRead (files_in m) f ⊎ (WasTaken m.parts f ⊎ (f ≡ checkpoint_file m.parts.step))
 Refuses m RunsSpent = 2 ^ 32 ≤ m.parts.next
-
--- a call of the folder failed, or an operand is damaged
-abbrev pub IsStartDamage : Files → SortFault → Type 0
-IsStartDamage files Shelf = Unit
-IsStartDamage files (Damaged f at) = IsRead files f
-IsStartDamage files RunsSpent = ⊥
 
 -- what it made, once it has ended
 abbrev pub made_at : Phase → Option Unreduced

@@ -18,7 +18,7 @@ use Rattle.top_down.specs.Laws.{roots_of_one, root_twice, roots_of_two, roots_of
 use Rattle.top_down.specs.Operations.{two, product_rule, choice_rule, quantify_rule, restrict_rule}
 use Rattle.top_down_laws.specs.Operations.{canon_diagrams}
 use Rattle.top_down_laws.specs.Readings.{Diagrams}
-use Rattle.top_down_sweep.specs.declared.start.Files.{Files}
+use Rattle.tuple_asks.specs.declared.files.Files.{Files}
 use Rattle.top_down_sweep.specs.Waiting.{AreApart}
 use Rattle.top_down_sweep.specs.Meaning.{Task, table_of, IsTaskOn, IsMadeOf}
 

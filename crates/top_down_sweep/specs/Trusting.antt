@@ -26,20 +26,22 @@ use Rattle.top_down.proofs.TurnLaws.{goes_below}
 use Rattle.top_down_laws.specs.Forms as forms
 use Rattle.top_down_laws.specs.Readings.{Diagrams, IsUpToHand, targets_in}
 use Rattle.top_down_laws.specs.Remains as laws
-use Rattle.top_down_sweep.specs.declared.ask.Ask.{Ask}
-use Rattle.top_down_sweep.specs.declared.operand.Operand.{Operand}
-use Rattle.top_down_sweep.specs.declared.place.Numbered.{Numbered}
-use Rattle.top_down_sweep.specs.declared.place.Asking.{Asking}
-use Rattle.top_down_sweep.specs.declared.place.Phase.{Phase}
-use Rattle.top_down_sweep.specs.declared.place.Phase.TheVariants as phases
+use Rattle.tuple_asks.specs.declared.ask.Ask.{Ask}
+use Rattle.tuple_asks.specs.declared.operand.Operand.{Operand}
+use Rattle.tuple_asks.specs.declared.place.Numbered.{Numbered}
+use Rattle.tuple_asks.specs.declared.place.Asking.{Asking}
+use Rattle.tuple_asks.specs.declared.place.Phase.{Phase}
+use Rattle.tuple_asks.specs.declared.place.Phase.TheVariants as phases
 use Rattle.top_down_sweep.specs.declared.machine.Machine.{Machine}
 use Rattle.top_down_sweep.specs.declared.sweep.TopDownSweep.{TopDownSweep}
-use Rattle.top_down_sweep.specs.Items.{ask_cmp}
-use Rattle.top_down_sweep.specs.ItemLaws.{ask_order}
-use Rattle.top_down_sweep.specs.Soundness.{side_number, asker_word, identifier}
-use Rattle.top_down_sweep.specs.Knowing.{FileBytes, bytes_in, KnowsBelow, KnowsHands}
+use Rattle.tuple_asks.specs.Items.{ask_cmp}
+use Rattle.tuple_asks.specs.ItemLaws.{ask_order}
+use Rattle.tuple_asks.specs.Soundness.{side_number, asker_word, identifier}
+use Rattle.tuple_asks.specs.Knowing.{FileBytes, KnowsBelow, KnowsHands}
+use Rattle.top_down_sweep.specs.Knowing.{bytes_in}
 use Rattle.top_down_sweep.specs.KnowingLaws.{AreOfTask, open_known, hands_known}
-use Rattle.top_down_sweep.specs.Waiting.{IsReadTo, Fits, KnowsAsk, AreReading, Holds, HoldsSome, HoldsFirst}
+use Rattle.tuple_asks.specs.Operands.{IsReadTo, Fits, AreReading}
+use Rattle.top_down_sweep.specs.Waiting.{KnowsAsk, Holds, HoldsSome, HoldsFirst}
 use Rattle.top_down_sweep.specs.Ordered.{AreOrdered, source_word, ArePutTo, ArePut}
 use Rattle.top_down_sweep.specs.Meaning.{Task, waiting_of, numbered_of, Contents, StandsFor, IsLeft, IsWorking, IsHandling, IsFresh, IsMadeOf, RemainsIn, RemainsOf, Remains}
 use Rattle.top_down_sweep.specs.Calls.{IsTrustedAt, IsMachineTrusted, IsTrusted}

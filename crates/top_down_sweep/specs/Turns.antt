@@ -15,13 +15,13 @@ use Rattle.top_down_laws.specs.Forms.{Form}
 use Rattle.top_down_laws.specs.Readings.{Diagrams, targets_in}
 use Rattle.top_down_laws.specs.Remains.{IsMet}
 use Rattle.top_down_laws.specs.Turns.{stages}
-use Rattle.top_down_sweep.specs.declared.place.Numbered.{Numbered}
-use Rattle.top_down_sweep.specs.declared.place.Phase.{Phase}
-use Rattle.top_down_sweep.specs.declared.place.Phase.TheVariants as phases
+use Rattle.tuple_asks.specs.declared.place.Numbered.{Numbered}
+use Rattle.tuple_asks.specs.declared.place.Phase.{Phase}
+use Rattle.tuple_asks.specs.declared.place.Phase.TheVariants as phases
 use Rattle.top_down_sweep.specs.declared.machine.Machine.{Machine}
 use Rattle.top_down_sweep.specs.declared.sweep.TopDownSweep.{TopDownSweep}
 use Rattle.top_down_sweep.specs.Fuel.{unread}
-use Rattle.top_down_sweep.specs.declared.place.Asking.{Asking}
+use Rattle.tuple_asks.specs.declared.place.Asking.{Asking}
 use Rattle.top_down_sweep.specs.Meaning.{Task, IsWorking, WorksOn}
 
 -- among these tuples are all that the task meets

@@ -1,33 +1,21 @@
 -- The asks that wait, and what was read of the operands, where a folder tells its content.
-use Rattle.std.specs.Prelude.{◌≡◌, ◌≢◌, ℕ, ◌<◌, ◌≤◌, List, ◌∷◌, All, Option, None, IfSome}
-use Rattle.rec_words.specs.Words.{level_of}
+use Rattle.std.specs.Prelude.{◌≡◌, ◌≢◌, ℕ, ◌<◌, List, ◌∷◌, All, Option, IfSome}
 use Rattle.shelf_model.specs.declared.file_no.FileNo.{FileNo}
 use Rattle.shelf_model.specs.World.{World}
 use Rattle.level_queue.specs.declared.queue.LevelQueue.{LevelQueue}
 use Rattle.level_queue.specs.Queues as queues
-use Rattle.node_reading.specs.Reading.{IsReading}
-use Rattle.top_down_sweep.specs.declared.ask.Ask.{Ask}
-use Rattle.top_down_sweep.specs.declared.operand.Operand.{Operand}
-use Rattle.top_down_sweep.specs.declared.operand.Operands.{Operands}
+use Rattle.tuple_asks.specs.declared.ask.Ask.{Ask}
 use Rattle.top_down_sweep.specs.declared.machine.Machine.{Machine}
-use Rattle.top_down_sweep.specs.declared.start.Files.{Files}
-use Rattle.top_down_sweep.specs.Items.{ask_words, IsAsk, ask_cmp}
-use Rattle.top_down_sweep.specs.Knowing.{FileBytes, bytes_in, KnowsMembers, KnowsHands}
+use Rattle.tuple_asks.specs.declared.files.Files.{Files}
+use Rattle.tuple_asks.specs.Items.{ask_words, IsAsk, ask_cmp}
+use Rattle.tuple_asks.specs.Knowing.{FileBytes, KnowsMembers, KnowsHands}
+use Rattle.top_down_sweep.specs.Knowing.{bytes_in}
 use Rattle.top_down_sweep.specs.Sweeps.{files_in, IsMade}
+use Rattle.tuple_asks.specs.Operands.{Fits, AreReading}
 
 -- in that world these asks wait, and they ascend
 abbrev pub Waits : LevelQueue Ask → World → List Ask → Type 0
 Waits q world asks = queues.Lists IsAsk ask_words ask_cmp q world asks
-
--- the node at hand, where there is one, comes no later than that one
-abbrev pub IsReadTo : ℕ → Operand → Type 0
-IsReadTo key o = IfSome o.hand (λ x. x.uid ≤ key)
-
--- no operand was read past the ask's node
-pub record Fits (o : Operands) (a : Ask) : Type 0 where
-  pub first : IsReadTo a.key o.first
-  pub second : IsReadTo a.key o.second
-  pub third : IsReadTo a.key o.third
 
 -- the file is none of those that the sweep makes, and none of the parts that it may take
 pub record IsApart (files : Files) (step : ℕ) (f : FileNo) : Type 0 where
@@ -40,28 +28,6 @@ pub record AreApart (files : Files) (step : ℕ) : Type 0 where
   pub first : IsApart files step files.first
   pub second : IsApart files step files.second
   pub third : IsApart files step files.third
-
--- what was read of the operands is as their files say
-pub record AreReading (o : Operands) (world : World) : Type 0 where
-  pub first : IsReading o.first.reader world
-  pub second : IsReading o.second.reader world
-  pub third : IsReading o.third.reader world
-
--- the operand wasn't read past that level
-abbrev pub IsReadWithin : ℕ → Operand → Type 0
-IsReadWithin level o = IfSome o.hand (λ x. level_of x.uid ≤ level)
-
--- so is none of them
-pub record AreReadTo (level : ℕ) (o : Operands) : Type 0 where
-  pub first : IsReadWithin level o.first
-  pub second : IsReadWithin level o.second
-  pub third : IsReadWithin level o.third
-
--- no node is at hand
-pub record HasNoHands (o : Operands) : Type 0 where
-  pub first : o.first.hand ≡ None
-  pub second : o.second.hand ≡ None
-  pub third : o.third.hand ≡ None
 
 -- where files are given, they are the operands' ones, which are apart
 abbrev pub AreBytesOf : Option FileBytes → Machine → World → Type 0

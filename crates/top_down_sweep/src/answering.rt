@@ -3,15 +3,12 @@ ghost use Rattle.std.specs.Prelude.{◌≡◌, ◌<◌, ◌≤◌};
 ghost use Rattle.rec_words.specs.Words.{level_of};
 
 use crate::Operation;
-use crate::ask::{Ask, Members};
 use crate::machine::Machine;
-use crate::members::{key_of, level_at};
-use crate::place::{Asking, Phase};
-use crate::sound::{SoundAsk, Source};
 use arc_file::Arc;
 use rec_words::{Ptr, Uid};
 use shelf_model::{Shelf, SortFault};
 use top_down::{Goal, Tuple};
+use tuple_asks::{Ask, Asking, Members, Phase, SoundAsk, Source, key_of, level_at};
 
 impl<'r> Machine<'r> {
     ghost use Rattle.std.specs.Prelude.{◌+◌, Some, OnOk, IfOk, IsTrue, true, false, cond};
@@ -19,12 +16,13 @@ impl<'r> Machine<'r> {
     ghost use Rattle.arc_file.specs.Writers.{inner_count, HoldsArcs};
     ghost use Rattle.level_queue.specs.Queues.{shown, last_of, held};
     ghost use Rattle.top_down.specs.Tuples.{level_of_tuple};
-    ghost use Rattle.top_down_sweep.specs.Members.{IsResolved};
-    ghost use Rattle.top_down_sweep.specs.Soundness.{is_due, is_sound, is_asker, next_numbered, identifier};
+    ghost use Rattle.tuple_asks.specs.Members.{IsResolved};
+    ghost use Rattle.tuple_asks.specs.Soundness.{is_due, is_sound, is_asker, next_numbered, identifier};
     ghost use Rattle.top_down_sweep.specs.Sweeps.{IsTakenTo, IsAsking};
     ghost use Rattle.std.specs.Prelude.{Option, IfSome};
-    ghost use Rattle.top_down_sweep.specs.Knowing.{FileBytes, KnowsTuple, KnowsMembers, StaysKnown};
-    ghost use Rattle.top_down_sweep.specs.Waiting.{AreReadTo, HoldsSome, HoldsFirst};
+    ghost use Rattle.tuple_asks.specs.Knowing.{FileBytes, KnowsTuple, KnowsMembers, StaysKnown};
+    ghost use Rattle.tuple_asks.specs.Operands.{AreReadTo};
+    ghost use Rattle.top_down_sweep.specs.Waiting.{HoldsSome, HoldsFirst};
     ghost use Rattle.top_down_sweep.specs.Calls.{Does, IsFit, IsFirst, KeepsAsks};
     ghost use Rattle.std.specs.Prelude.{IfErr, ◌++◌, [], ◌∷◌, ◌^◌, List};
     ghost use Rattle.arc_file.specs.declared.arc.Arc.{Arc};
@@ -33,10 +31,10 @@ impl<'r> Machine<'r> {
     ghost use Rattle.sweep_core.specs.Sweeps.{IsNoDamage};
     ghost use Rattle.top_down_laws.specs.Remains.{answer_arcs};
     ghost use Rattle.top_down_laws.specs.Forms.{least};
-    ghost use Rattle.top_down_sweep.specs.Members.{want, all_filled, all_waiting};
+    ghost use Rattle.tuple_asks.specs.Members.{want, all_filled, all_waiting};
     ghost use Rattle.top_down_sweep.specs.Meaning.{Task, Contents, StandsFor, IsHandling};
     ghost use Rattle.top_down_sweep.specs.Turns.{Advances};
-    ghost use Rattle.top_down_sweep.specs.Soundness.{asker_word};
+    ghost use Rattle.tuple_asks.specs.Soundness.{asker_word};
     ghost use Rattle.top_down_sweep.specs.Changes.{AsksInstead, JoinAsks, ServesSide, ask_for, goal_below};
 
     /// Takes an ask, and asks again with the members that were read, for the next node.

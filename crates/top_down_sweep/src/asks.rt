@@ -1,17 +1,17 @@
 //! The calls of the queue.
-use crate::ask::Ask;
 use crate::machine::Machine;
-use crate::sound::SoundAsk;
 use shelf_model::{Shelf, SortFault};
+use tuple_asks::{Ask, SoundAsk};
 
 impl<'r> Machine<'r> {
     ghost use Rattle.std.specs.Prelude.{◌≡◌, ◌≢◌, ◌+◌, true, false, IsTrue, Some, OnOk, IfOk, IfSome};
     ghost use Rattle.level_queue.specs.Queues.{shown, last_of, held, IsNoLess};
-    ghost use Rattle.top_down_sweep.specs.Items.{ask_cmp};
+    ghost use Rattle.tuple_asks.specs.Items.{ask_cmp};
     ghost use Rattle.top_down_sweep.specs.Sweeps.{IsAsking};
     ghost use Rattle.std.specs.Prelude.{Option};
-    ghost use Rattle.top_down_sweep.specs.Knowing.{FileBytes};
-    ghost use Rattle.top_down_sweep.specs.Waiting.{Fits, KnowsAsk, HoldsSome, HoldsFirst};
+    ghost use Rattle.tuple_asks.specs.Knowing.{FileBytes};
+    ghost use Rattle.tuple_asks.specs.Operands.{Fits};
+    ghost use Rattle.top_down_sweep.specs.Waiting.{KnowsAsk, HoldsSome, HoldsFirst};
     ghost use Rattle.top_down_sweep.specs.Calls.{Does, IsFit, IsFirst, KeepsAsks};
     ghost use Rattle.std.specs.Prelude.{IfErr, [], ◌∷◌};
     ghost use Rattle.sweep_core.specs.Sweeps.{IsNoDamage};

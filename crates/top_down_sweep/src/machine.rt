@@ -1,10 +1,8 @@
 //! What works for a sweep from the root down, whichever operation it is for.
-use crate::operand::Operands;
-use crate::place::Place;
-use crate::sound::SoundAsk;
 use arc_file::ArcWriter;
 use level_queue::LevelQueue;
 use run_merge::Parts;
+use tuple_asks::{Operands, Place, SoundAsk};
 
 /// The operands, the asks that are open, and the arcs that are made.
 #[derive(Drop)]

@@ -1,9 +1,9 @@
 //! What a checkpoint of a sweep names, and whether it keeps the rules.
 use crate::rules::has_queue;
-use crate::saved::SavedMachine;
 use crate::{Files, Operation, TopDownSweep};
 use saved_words::value_of;
 use sweep_core::Checkpoint;
+use tuple_asks::SavedMachine;
 
 /// What a checkpoint of a sweep names: the operation, of how many variables the diagrams are, and the files.
 #[derive(Clone, Copy, Debug, PartialEq, Eq)]

@@ -1,9 +1,7 @@
 //! What is saved of a machine.
 use crate::machine::Machine;
-use crate::operand::Operand;
-use crate::place::Phase;
-use crate::saved::{SavedArcs, SavedMachine, SavedOperand};
 use arc_file::Unreduced;
+use tuple_asks::{Phase, SavedArcs, SavedMachine};
 
 impl<'r> Machine<'r> {
     ghost use Rattle.std.specs.Prelude.{◌≡◌};
@@ -31,25 +29,6 @@ impl<'r> Machine<'r> {
             },
             asking,
             taken: self.queue.last(),
-        }
-    }
-}
-
-impl<'r> Operand<'r> {
-    ghost use Rattle.std.specs.Prelude.{◌≡◌};
-    ghost use Rattle.top_down_sweep.specs.Rebuilds.{saved_operand};
-
-    // What is saved of it.
-    fn saved(&self) -> SavedOperand
-        ensures { result ≡ saved_operand self.now }
-    {
-        let read = match self.hand {
-            Some(_node) => Some(self.reader.place()),
-            None => None,
-        };
-        SavedOperand {
-            file: self.file,
-            read,
         }
     }
 }

@@ -1,14 +1,13 @@
 //! A sweep from the root down, as it stands between two turns.
 use crate::Operation;
 use crate::machine::Machine;
-use crate::place::Phase;
-use crate::saved::SavedMachine;
 use arc_file::Unreduced;
 use rec_words::{Ptr, Rec};
 use run_merge::Parts;
 use saved_words::{value_of, words_of};
 use shelf_model::{Shelf, SortFault};
 use sweep_core::{Checkpoint, Sweep, Turn, fill_with_runs};
+use tuple_asks::{Phase, SavedMachine};
 
 /// An operation on diagrams, level by level from the root down. It makes the arcs of a diagram that isn't reduced.
 ///

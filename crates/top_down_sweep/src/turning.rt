@@ -2,38 +2,36 @@
 ghost use Rattle.std.specs.Prelude.{◌≡◌};
 
 use crate::Operation;
-use crate::ask::{Ask, Members};
 use crate::checkpoint::checkpoint_fault;
 use crate::machine::Machine;
-use crate::members::{key_of, level_at};
-use crate::place::{Asking, Phase};
-use crate::sound::{NOBODY, SoundAsk};
 use rec_words::{Ptr, Uid};
 use shelf_model::{Shelf, SortFault};
 use sweep_core::Turn;
 use top_down::{Goal, Tuple};
+use tuple_asks::{Ask, Asking, Members, NOBODY, Phase, SoundAsk, key_of, level_at};
 
 impl<'r> Machine<'r> {
     ghost use Rattle.std.specs.Prelude.{◌<◌, ◌+◌, Some, None, true, IsTrue, OnOk, IfOk};
     ghost use Rattle.rec_words.specs.Words.{terminal_level};
     ghost use Rattle.top_down.specs.Tuples.{level_of_tuple};
     ghost use Rattle.level_queue.specs.Queues.{shown, last_of};
-    ghost use Rattle.top_down_sweep.specs.Members.{want};
+    ghost use Rattle.tuple_asks.specs.Members.{want};
     ghost use Rattle.sweep_core.specs.Sweeps.{Falls, StaysEnded};
     ghost use Rattle.top_down_sweep.specs.Sweeps.{IsSoundMachine, IsAsking, HasEnded, EndsAt};
     ghost use Rattle.top_down_sweep.specs.Fuel.{unread, weight, machine_fuel};
     ghost use Rattle.std.specs.Prelude.{Option, IfSome};
     ghost use Rattle.top_down.specs.declared.tuple.Tuple.{Tuple};
     ghost use Rattle.top_down.specs.Rules.{Rule};
-    ghost use Rattle.top_down_sweep.specs.Knowing.{FileBytes, KnowsTuple, StaysKnown};
-    ghost use Rattle.top_down_sweep.specs.Waiting.{AreBytesOf, HasNoHands, HoldsSome, HoldsFirst};
+    ghost use Rattle.tuple_asks.specs.Knowing.{FileBytes, KnowsTuple, StaysKnown};
+    ghost use Rattle.top_down_sweep.specs.Waiting.{AreBytesOf, HoldsSome, HoldsFirst};
+    ghost use Rattle.tuple_asks.specs.Operands.{HasNoHands};
     ghost use Rattle.top_down_sweep.specs.Calls.{Does, IsFit, IsFirst, KeepsAsks};
     ghost use Rattle.top_down_sweep.specs.Calls.{HoldsAsks, HoldsAskFirst, IsMachineInStep, IsTrustedAt, IsMachineTrusted};
     ghost use Rattle.top_down_sweep.specs.Damage.{IsMachineDamage};
     ghost use Rattle.std.specs.Prelude.{IfErr};
     ghost use Rattle.top_down_sweep.specs.Ordered.{IsOrdered, KeepsArcs};
     ghost use Rattle.sweep_core.specs.Sweeps.{IsNoDamage};
-    ghost use Rattle.top_down_sweep.specs.declared.place.Asking.{Asking};
+    ghost use Rattle.tuple_asks.specs.declared.place.Asking.{Asking};
     ghost use Rattle.top_down_sweep.specs.Meaning.{Task, StandsFor, first_contents, IsFresh, IsWorking, IsHandling, WorksOn, RemainsOf};
     ghost use Rattle.top_down_sweep.specs.Turns.{HasFewer, Advances, AdvancesAt, TurnsFall};
 

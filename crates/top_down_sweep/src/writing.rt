@@ -1,10 +1,10 @@
 //! The calls of the writer of arcs.
 use crate::machine::Machine;
-use crate::place::Phase;
 use arc_file::Arc;
 use rec_words::Ptr;
 use shelf_model::{Shelf, SortFault};
 use sweep_core::Turn;
+use tuple_asks::Phase;
 
 impl<'r> Machine<'r> {
     ghost use Rattle.std.specs.Prelude.{◌≡◌, ◌+◌, ◌^◌, ◌≤◌, IsTrue, OnOk, IfOk, length};
@@ -13,14 +13,14 @@ impl<'r> Machine<'r> {
     ghost use Rattle.arc_file.specs.Files.{inner_arcs};
     ghost use Rattle.arc_file.specs.Writers.{inner_count, made_of, HoldsArcs};
     ghost use Rattle.sweep_core.specs.declared.turn.Turn.TheVariants as turns;
-    ghost use Rattle.top_down_sweep.specs.declared.place.Phase.TheVariants as phases;
+    ghost use Rattle.tuple_asks.specs.declared.place.Phase.TheVariants as phases;
     ghost use Rattle.top_down_sweep.specs.Sweeps.{IsSoundMachine};
     ghost use Rattle.top_down_sweep.specs.Calls.{Does, IsFit, IsMachineInStep, IsMachineTrusted, KeepsAsks};
     ghost use Rattle.top_down_sweep.specs.Ordered.{HoldsOrdered};
     ghost use Rattle.std.specs.Prelude.{Option};
     ghost use Rattle.top_down.specs.declared.tuple.Tuple.{Tuple};
     ghost use Rattle.top_down.specs.Rules.{Rule};
-    ghost use Rattle.top_down_sweep.specs.Knowing.{FileBytes};
+    ghost use Rattle.tuple_asks.specs.Knowing.{FileBytes};
     ghost use Rattle.std.specs.Prelude.{IfErr, ◌++◌, ◌||◌};
     ghost use Rattle.arc_file.specs.Files.{end_arcs};
     ghost use Rattle.sweep_core.specs.Sweeps.{IsNoDamage};

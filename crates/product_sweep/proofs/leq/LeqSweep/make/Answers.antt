@@ -4,7 +4,7 @@ use Rattle.sweep_core.specs.declared.turn.Turn.{Turn}
 use Rattle.sweep_core.specs.declared.turn.Turn.TheVariants.{More, Ended}
 use Rattle.node_reading.proofs.NodeReading.{is_handed}
 use Rattle.table_work.specs.declared.sweep.TableSweep.{TableSweep}
-use Rattle.top_down_sweep.specs.declared.product.Product.{Product}
+use Rattle.sweep_operations.specs.declared.product.Product.{Product}
 use Rattle.product_sweep.specs.declared.leq.LeqPhase.{LeqPhase}
 use Rattle.product_sweep.specs.declared.leq.LeqPhase.TheVariants.{Making, Answered}
 use Rattle.product_sweep.specs.Implications.{Turned}

@@ -1,13 +1,13 @@
 use Rattle.std.proofs.Common.{true, false, ℕ, ◌<◌, ◌^◌, ◌++◌, ◌∙◌, ap, sym, subst, arith, ◌≡◌}
 use Rattle.top_down_laws.specs.Remains.{answer_arcs}
 use Rattle.top_down.specs.Asks.{side_arcs}
-use Rattle.top_down_sweep.specs.Soundness.{identifier, next_numbered}
+use Rattle.tuple_asks.specs.Soundness.{identifier, next_numbered}
 use Rattle.top_down_sweep.specs.Ordered.{ArePut}
 use Rattle.top_down_sweep.proofs.Numbers.{last_few}
 use Rattle.top_down_sweep.proofs.Orders.{put_of, put_at, put_known, put_new}
 use Rattle.top_down_laws.specs.Forms.{least}
-use Rattle.top_down_sweep.specs.Members.{all_waiting}
-use Rattle.top_down_sweep.specs.declared.ask.Members.{Members}
+use Rattle.tuple_asks.specs.Members.{all_waiting}
+use Rattle.tuple_asks.specs.declared.ask.Members.{Members}
 use Rattle.top_down.specs.declared.tuple.Goal.{Goal}
 use Rattle.std.specs.Prelude.{Bool, Some, None}
 use Rattle.top_down_sweep.specs.Changes.{goal_below}
@@ -20,10 +20,10 @@ use Rattle.node_reading.proofs.NodeReading.{if_handed}
 use Rattle.top_down_sweep.proofs.Holding.{first_holds, first_fits, first_forgets, read_level, if_err_map}
 use Rattle.std.proofs.lemmas.Result.{on_ok_weaker}
 use Rattle.std.proofs.lemmas.Bool.{and_parts}
-use Rattle.top_down_sweep.specs.Waiting.{AreReadTo}
+use Rattle.tuple_asks.specs.Operands.{AreReadTo}
 use Rattle.rec_words.specs.Words.{level_of}
-use Rattle.top_down_sweep.specs.declared.operand.Operands.{Operands}
-use Rattle.top_down_sweep.specs.declared.place.Place.{Place}
+use Rattle.tuple_asks.specs.declared.operand.Operands.{Operands}
+use Rattle.tuple_asks.specs.declared.place.Place.{Place}
 use Rattle.top_down_sweep.specs.declared.machine.Machine.{Machine}
 use Rattle.top_down_sweep.specs.Sweeps.{IsAsking}
 use Rattle.top_down_sweep.proofs.Doing.{then_more, does_more, does_err, refused_second, on_ok}

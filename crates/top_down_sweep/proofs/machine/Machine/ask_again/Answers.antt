@@ -3,8 +3,9 @@ use Rattle.std.proofs.lemmas.Result.{on_ok_weaker}
 use Rattle.node_reading.proofs.NodeReading.{if_handed}
 use Rattle.top_down_sweep.proofs.Holding.{first_holds, first_fits, again_fits, if_err_map}
 use Rattle.std.proofs.Common.{[], ◌∷◌, sym, subst, arith}
-use Rattle.top_down_sweep.specs.declared.ask.Ask.{Ask}
-use Rattle.top_down_sweep.specs.Waiting.{Fits, KnowsAsk}
+use Rattle.tuple_asks.specs.declared.ask.Ask.{Ask}
+use Rattle.tuple_asks.specs.Operands.{Fits}
+use Rattle.top_down_sweep.specs.Waiting.{KnowsAsk}
 use Rattle.top_down_sweep.specs.Changes.{JoinAsks}
 use Rattle.top_down_sweep.proofs.Doing.{then_more}
 use Rattle.top_down_sweep.proofs.machine.Machine.ask_again.Goals as goal

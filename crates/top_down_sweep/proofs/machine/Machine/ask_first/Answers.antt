@@ -2,15 +2,15 @@ use Rattle.top_down_sweep.proofs.StandingOn.{stands_placed}
 use Rattle.top_down_sweep.specs.Changes.{JoinAsks}
 use Rattle.top_down_sweep.specs.Meaning.{first_contents}
 use Rattle.top_down_laws.specs.Forms.{nobody}
-use Rattle.top_down_sweep.specs.declared.place.Phase.TheVariants as phases
-use Rattle.top_down_sweep.specs.declared.place.Place.{Place}
-use Rattle.top_down_sweep.specs.declared.ask.Ask.{Ask}
-use Rattle.top_down_sweep.specs.declared.ask.Members.{Members}
-use Rattle.top_down_sweep.specs.Soundness.{is_sound}
+use Rattle.tuple_asks.specs.declared.place.Phase.TheVariants as phases
+use Rattle.tuple_asks.specs.declared.place.Place.{Place}
+use Rattle.tuple_asks.specs.declared.ask.Ask.{Ask}
+use Rattle.tuple_asks.specs.declared.ask.Members.{Members}
+use Rattle.tuple_asks.specs.Soundness.{is_sound}
 use Rattle.top_down_sweep.proofs.Holding.{fresh_fits, holds_placed, if_err_map}
-use Rattle.top_down_sweep.proofs.SoundAsks.{root_sound}
+use Rattle.tuple_asks.proofs.SoundAsks.{root_sound}
 use Rattle.top_down_sweep.specs.Waiting.{KnowsAsk}
-use Rattle.top_down_sweep.specs.Knowing.{KnowsMembers}
+use Rattle.tuple_asks.specs.Knowing.{KnowsMembers}
 use Rattle.top_down_sweep.proofs.Known.{some_on, tuple_known}
 use Rattle.std.specs.Prelude.{None}
 use Rattle.std.proofs.Common.{◌≡◌, true, [], ◌∷◌, refl, ◌∙◌, subst, sym, ap}

@@ -1,17 +1,18 @@
 use Rattle.top_down_sweep.specs.Changes.{JoinAsks}
-use Rattle.top_down_sweep.specs.declared.ask.Ask.{Ask}
+use Rattle.tuple_asks.specs.declared.ask.Ask.{Ask}
 use Rattle.std.proofs.Common.{◌≡◌, ◌∙◌, true, [], ◌∷◌, subst, sym}
 use Rattle.std.proofs.lemmas.Result.{on_ok_weaker}
-use Rattle.top_down_sweep.specs.declared.ask.Members.{Members}
-use Rattle.top_down_sweep.specs.Soundness.{is_sound}
-use Rattle.top_down_sweep.specs.Waiting.{Fits, KnowsAsk}
-use Rattle.top_down_sweep.specs.Knowing.{KnowsMembers}
+use Rattle.tuple_asks.specs.declared.ask.Members.{Members}
+use Rattle.tuple_asks.specs.Soundness.{is_sound}
+use Rattle.tuple_asks.specs.Operands.{Fits}
+use Rattle.top_down_sweep.specs.Waiting.{KnowsAsk}
+use Rattle.tuple_asks.specs.Knowing.{KnowsMembers}
 use Rattle.top_down_sweep.proofs.Known.{some_on, tuple_known}
 use Rattle.rec_words.specs.Words.{level_of}
 use Rattle.level_queue.specs.Queues.{last_of, IsNoLess}
-use Rattle.top_down_sweep.specs.Items.{ask_cmp}
+use Rattle.tuple_asks.specs.Items.{ask_cmp}
 use Rattle.top_down_sweep.proofs.Holding.{deeper_fits, deeper_no_less}
-use Rattle.top_down_sweep.proofs.SoundAsks.{side_sound, side_deeper}
+use Rattle.tuple_asks.proofs.SoundAsks.{side_sound, side_deeper}
 use Rattle.top_down_sweep.proofs.machine.Machine.ask_for.Goals as goal
 
 -- the ask is sound, since the tuple lies deeper than its source

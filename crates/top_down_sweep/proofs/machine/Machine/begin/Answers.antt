@@ -1,8 +1,8 @@
-use Rattle.top_down_sweep.specs.declared.place.Phase.TheVariants as phases
+use Rattle.tuple_asks.specs.declared.place.Phase.TheVariants as phases
 use Rattle.top_down.specs.Rules.{Rule}
 use Rattle.std.proofs.Common.{◌≡◌, ◌∙◌, sym, ap, subst}
 use Rattle.top_down.specs.declared.tuple.Goal.TheVariants.{Go}
-use Rattle.top_down_sweep.specs.Meaning.{roots_of}
+use Rattle.tuple_asks.specs.Readings.{roots_of}
 use Rattle.top_down_sweep.proofs.Known.{kept_asks, first_known}
 use Rattle.list_laws.proofs.AnswerLaws.{on_ok_both}
 use Rattle.top_down_sweep.proofs.TurnKeeps.{works_remain, constant_remains, ended_left}

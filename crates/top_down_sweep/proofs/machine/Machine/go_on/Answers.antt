@@ -1,4 +1,4 @@
-use Rattle.top_down_sweep.specs.declared.place.Phase.TheVariants as phases
+use Rattle.tuple_asks.specs.declared.place.Phase.TheVariants as phases
 use Rattle.node_reading.proofs.NodeReading.{if_handed}
 use Rattle.list_laws.proofs.AnswerLaws.{on_ok_both}
 use Rattle.top_down_sweep.specs.Changes.{ShowsAsk}
@@ -8,7 +8,7 @@ use Rattle.top_down_sweep.proofs.Orders.{put_at, put_kept, put_ordered}
 use Rattle.top_down_sweep.specs.declared.machine.Machine.{Machine}
 use Rattle.std.proofs.Common.{◌∙◌, ap, sym, subst, arith}
 use Rattle.std.specs.Prelude.{Option, Some, None, IfSome, IsTrue}
-use Rattle.top_down_sweep.specs.Knowing.{FileBytes}
+use Rattle.tuple_asks.specs.Knowing.{FileBytes}
 use Rattle.top_down_sweep.proofs.Known.{shown_asks, handled_asks}
 use Rattle.top_down_sweep.specs.Calls.{IsFirst}
 use Rattle.top_down_sweep.specs.Waiting.{HoldsSome, HoldsFirst}

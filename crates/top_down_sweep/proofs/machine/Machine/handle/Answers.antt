@@ -8,19 +8,19 @@ use Rattle.top_down_sweep.proofs.Orders.{put_of, put_at, put_kept, put_later}
 use Rattle.level_queue.specs.Queues.{last_of}
 use Rattle.top_down_sweep.proofs.WorkingOn.{not_last, always_due}
 use Rattle.std.proofs.lemmas.Result.{on_ok_weaker}
-use Rattle.top_down_sweep.proofs.SoundAsks.{again_sound}
-use Rattle.top_down_sweep.specs.Soundness.{is_sound}
-use Rattle.top_down_sweep.specs.declared.ask.Members.{Members}
+use Rattle.tuple_asks.proofs.SoundAsks.{again_sound}
+use Rattle.tuple_asks.specs.Soundness.{is_sound}
+use Rattle.tuple_asks.specs.declared.ask.Members.{Members}
 use Rattle.std.proofs.Common.{◌≡◌, ◌<◌, ◌^◌, subst, sym, ap, ◌∙◌, arith, true}
 use Rattle.std.proofs.lemmas.Bool.{and_parts}
 use Rattle.rec_words.specs.Words.{IsNodeWord}
 use Rattle.top_down_laws.specs.Forms.{least}
-use Rattle.top_down_sweep.specs.Members.{IsResolved, all_waiting}
+use Rattle.tuple_asks.specs.Members.{IsResolved, all_waiting}
 use Rattle.top_down_sweep.proofs.Doing.{does_more, no_damage, on_ok}
 use Rattle.top_down_sweep.proofs.Phases.{still_asking}
 use Rattle.top_down_sweep.proofs.FuelLaws.{falls_known, falls_taken, first_behind, no_more_waits, fewer_waits}
 use Rattle.top_down_sweep.specs.declared.machine.Machine.{Machine}
-use Rattle.top_down_sweep.proofs.MemberLaws.{next_later, all_resolved}
+use Rattle.tuple_asks.proofs.MemberLaws.{next_later, all_resolved}
 use Rattle.top_down_sweep.proofs.machine.Machine.handle.Goals as goal
 
 -- the ask's node is at hand: what is read next comes later

@@ -1,15 +1,15 @@
-use Rattle.top_down_sweep.specs.declared.place.Place.{Place}
+use Rattle.tuple_asks.specs.declared.place.Place.{Place}
 use Rattle.top_down_sweep.proofs.StandingOn.{stands_placed}
 use Rattle.top_down_sweep.specs.Meaning.{StandsFor}
-use Rattle.top_down_sweep.specs.declared.place.Phase.TheVariants as phases
+use Rattle.tuple_asks.specs.declared.place.Phase.TheVariants as phases
 use Rattle.top_down_laws.specs.Remains.{answer_arcs}
 use Rattle.std.specs.Prelude.{Some}
 use Rattle.std.proofs.Common.{ℕ, ◌++◌, ◌≡◌, ◌≤◌, ◌<◌, ◌∙◌, ap, sym, subst, arith, refl}
 use Rattle.top_down_sweep.proofs.Holding.{holds_placed}
 use Rattle.rec_words.specs.Words.{level_of, level_numbers}
 use Rattle.arc_file.specs.Writers.{inner_count, HoldsArcs}
-use Rattle.top_down_sweep.specs.declared.place.Numbered.{Numbered}
-use Rattle.top_down_sweep.specs.Soundness.{identifier}
+use Rattle.tuple_asks.specs.declared.place.Numbered.{Numbered}
+use Rattle.tuple_asks.specs.Soundness.{identifier}
 use Rattle.top_down_sweep.proofs.Numbers.{number_fits, few_arcs, level_of_node}
 use Rattle.top_down_sweep.proofs.machine.Machine.number.Goals as goal
 

@@ -1,7 +1,7 @@
 use Rattle.top_down_sweep.proofs.TurnKeeps.{answered, unasked}
 use Rattle.top_down_sweep.specs.Meaning.{StandsFor}
 use Rattle.arc_file.specs.Writers.{HoldsArcs}
-use Rattle.top_down_sweep.specs.declared.sound.Source.{Source}
+use Rattle.tuple_asks.specs.declared.sound.Source.{Source}
 use Rattle.arc_file.specs.declared.arc.Arc.{Arc}
 use Rattle.std.proofs.lemmas.Result.{on_ok_weaker}
 use Rattle.std.proofs.Common.{ap, arith}

@@ -2,14 +2,14 @@ use Rattle.top_down_sweep.proofs.WorkingOn.{first_has_next, second_has_next, thi
 use Rattle.top_down_sweep.proofs.ReadKeeps.{first_kept, second_kept, third_kept}
 use Rattle.std.proofs.Common.{◌≡◌, ◌∙◌, true, refl, sym, subst, rules}
 use Rattle.std.proofs.lemmas.Result.{on_ok_weaker}
-use Rattle.top_down_sweep.specs.Members.{wants}
+use Rattle.tuple_asks.specs.Members.{wants}
 use Rattle.top_down_sweep.proofs.Doing.{does_looked, on_ok}
 use Rattle.top_down_sweep.proofs.OwnRuns.{checkpoint_refuses}
 use Rattle.top_down_sweep.specs.Trusting.{handling_holds}
 use Rattle.std.specs.Prelude.{None, Err}
-use Rattle.top_down_sweep.specs.Knowing.{FileBytes, KnowsMembers, StaysKnown}
+use Rattle.tuple_asks.specs.Knowing.{FileBytes, KnowsMembers, StaysKnown}
 use Rattle.top_down_sweep.proofs.StandingOn.{arcs_shown}
-use Rattle.top_down_sweep.proofs.OperandReading.{wanted_is, behind_hand}
+use Rattle.tuple_asks.proofs.OperandReading.{wanted_is, behind_hand}
 use Rattle.top_down_sweep.proofs.Holding.{first_fits, first_node, first_knows, if_err_map, third_wanted, first_files, first_bytes, first_damage, first_read, second_files, second_bytes, second_damage, second_read, third_files, third_bytes, third_damage, third_read}
 use Rattle.top_down_sweep.proofs.machine.Machine.read_wanted.Goals as goal
 

@@ -12,12 +12,15 @@ use Rattle.node_reading.proofs.Spent.{not_spent}
 use Rattle.sweep_core.specs.Accounts.{CanBeTaken}
 use Rattle.sweep_core.specs.Resting.{made_rests}
 use Rattle.top_down_sweep.specs.declared.machine.Machine.{Machine}
-use Rattle.top_down_sweep.specs.declared.place.Place.{Place}
-use Rattle.top_down_sweep.specs.Items.{ask_words, IsAsk, ask_cmp}
-use Rattle.top_down_sweep.specs.Resumes.{OfArcs, arcs_of, parts_at, table_in, queue_tables}
-use Rattle.top_down_sweep.specs.Sweeps.{AreOperands, IsPhaseAt}
+use Rattle.tuple_asks.specs.declared.place.Place.{Place}
+use Rattle.tuple_asks.specs.Items.{ask_words, IsAsk, ask_cmp}
+use Rattle.tuple_asks.specs.Resuming.{OfArcs, arcs_of}
+use Rattle.top_down_sweep.specs.Resumes.{parts_at, queue_tables}
+use Rattle.tuple_asks.specs.SavedRules.{table_in}
+use Rattle.tuple_asks.specs.Operands.{AreOperands}
+use Rattle.top_down_sweep.specs.Sweeps.{IsPhaseAt}
 use Rattle.top_down_sweep.proofs.Restoring.{IsRebuilt, named_run, restores, phase_kept, arcs_sound, arcs_fault}
-use Rattle.top_down_sweep.proofs.Starting.{only_looked, then_cut}
+use Rattle.tuple_asks.proofs.StartLeaves.{only_looked, then_cut}
 use Rattle.top_down_sweep.proofs.machine.Machine.rebuild.Goals as goal
 
 pub resume-requires-clause-apart : goal.resume-requires-clause-apart

@@ -6,19 +6,20 @@ use Rattle.top_down_laws.specs.Laws.{unread_all}
 use Rattle.sweep_core.specs.Sweeps.{IsNoDamage}
 use Rattle.top_down_sweep.specs.Waiting.{AreApart}
 use Rattle.top_down_sweep.specs.Sweeps.{files_in}
-use Rattle.top_down_sweep.specs.declared.start.Files.{Files}
+use Rattle.tuple_asks.specs.declared.files.Files.{Files}
 use Rattle.top_down_sweep.proofs.StandingOn.{all_still}
 use Rattle.node_reading.proofs.NodeReading.{if_handed}
 use Rattle.shelf_model.specs.SortFaults.{handed_on}
-use Rattle.top_down_sweep.specs.Damage.{IsStartFault}
+use Rattle.tuple_asks.specs.Damage.{IsStartFault}
 use Rattle.sweep_core.specs.Accounts.{CanBeTaken}
 use Rattle.node_reading.proofs.Staying.{looked_stays}
-use Rattle.top_down_sweep.proofs.Starting.{only_looked, then_cut, others_uncut}
-use Rattle.top_down_sweep.proofs.Holding.{operands_still, looked_same}
+use Rattle.tuple_asks.proofs.StartLeaves.{only_looked, then_cut, others_uncut}
+use Rattle.top_down_sweep.proofs.Holding.{operands_still}
+use Rattle.tuple_asks.proofs.Staying.{looked_same}
 use Rattle.top_down_sweep.proofs.OperandsStay.{task_on}
 use Rattle.top_down_sweep.proofs.Known.{none_asks}
 use Rattle.top_down_sweep.specs.declared.machine.Machine.{Machine}
-use Rattle.top_down_sweep.specs.declared.place.Phase.TheVariants.{Fresh}
+use Rattle.tuple_asks.specs.declared.place.Phase.TheVariants.{Fresh}
 use Rattle.top_down_sweep.proofs.sweep.TopDownSweep.start.Goals as goal
 
 -- the operands were looked at, and the files of arcs were cut

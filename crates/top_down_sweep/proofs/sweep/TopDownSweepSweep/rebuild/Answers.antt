@@ -8,10 +8,11 @@ use Rattle.node_reading.proofs.NodeReading.{if_handed}
 use Rattle.run_tiers.specs.declared.parts.Parts.{Parts}
 use Rattle.sweep_core.specs.Carries.{OnlyCutBehind}
 use Rattle.sweep_core.specs.Saving.{IsOfStep, reads_of}
-use Rattle.top_down_sweep.specs.declared.place.Place.{Place}
-use Rattle.top_down_sweep.specs.declared.start.Files.{Files}
+use Rattle.tuple_asks.specs.declared.place.Place.{Place}
+use Rattle.tuple_asks.specs.declared.files.Files.{Files}
 use Rattle.top_down_sweep.specs.Resumes.{RestsOn, OnOperand}
-use Rattle.top_down_sweep.specs.Sweeps.{IsMade, IsRead}
+use Rattle.top_down_sweep.specs.Sweeps.{IsMade}
+use Rattle.tuple_asks.specs.Operands.{IsRead}
 use Rattle.top_down_sweep.proofs.Begun.{of_step, begun_step, first_left, rules_of, goes_of, named_calls}
 use Rattle.top_down_sweep.proofs.Restoring.{cut_rests}
 use Rattle.top_down_sweep.proofs.sweep.TopDownSweepSweep.rebuild.Goals as goal

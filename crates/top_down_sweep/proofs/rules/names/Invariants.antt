@@ -1,8 +1,0 @@
-use Rattle.std.proofs.Common.{ℕ, ◌<◌, get_or}
-use Rattle.run_tiers.specs.Tables.{no_run}
-use Rattle.top_down_sweep.specs.Resumes.{IsOfRun}
-use Rattle.top_down_sweep.proofs.rules.names.Given as goal
-
--- no run so far has that file
-abbrev pub invariant-loop-slot : goal.invariant-loop-slot
-invariant-loop-slot l = (k : ℕ) → k < l.slot → IsOfRun l.step l.file (get_or l.runs k no_run) → ⊥

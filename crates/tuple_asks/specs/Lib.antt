@@ -1,0 +1,12 @@
+pub mod Items
+pub mod ItemLaws
+pub mod Members
+pub mod Soundness
+pub mod Knowing
+pub mod Operands
+pub mod Damage
+pub mod Readings
+pub mod AskWords
+pub mod Saved
+pub mod Resuming
+pub mod SavedRules
