@@ -7,7 +7,7 @@ use Rattle.tuple_asks.specs.declared.ask.Ask.{Ask}
 use Rattle.tuple_asks.specs.Operands.{Fits}
 use Rattle.top_down_sweep.specs.Waiting.{KnowsAsk}
 use Rattle.top_down_sweep.specs.Changes.{JoinAsks}
-use Rattle.top_down_sweep.proofs.Doing.{then_more}
+use Rattle.top_down_sweep.proofs.Doing.{then_more, does_more, does_err}
 use Rattle.top_down_sweep.proofs.machine.Machine.ask_again.Goals as goal
 
 -- an ask was taken and another one was put
@@ -54,3 +54,11 @@ pub returns-clause-arcs : goal.returns-clause-arcs
 returns-clause-arcs g c = on_ok_weaker c.push.result (λ keeps told xs ys held. keeps told xs ys
     (c.in_ok-take.ensures.arcs (c.push.ensures.does.leaves.content.before told) xs ys held))
     c.push.ensures.arcs
+
+-- it couldn't be taken
+pub returns-in_err-take-clause-does : goal.returns-in_err-take-clause-does
+returns-in_err-take-clause-does g c = does_more g.S.Shelf.tells g.S.Shelf.world g.S.Shelf.faults 8 56 0 3 _ _
+    c.args.self.now c.take.new.self c.from_residual.result (omega arith) (omega arith)
+    (does_err g.S.Shelf.tells g.S.Shelf.world g.S.Shelf.faults 8 0 _ _ c.args.self.now c.take.new.self
+    c.from_residual.result c.take.result c.in_err-take.field-0.0 c.from_residual.ensures.1 c.in_err-take.was
+    c.take.ensures.does)

@@ -1,6 +1,6 @@
 use Rattle.tuple_asks.specs.declared.place.Phase.TheVariants as phases
 use Rattle.top_down.specs.Rules.{Rule}
-use Rattle.std.proofs.Common.{◌≡◌, ◌∙◌, sym, ap, subst}
+use Rattle.std.proofs.Common.{◌≡◌, ◌∙◌, sym, ap, subst, arith}
 use Rattle.top_down.specs.declared.tuple.Goal.TheVariants.{Go}
 use Rattle.tuple_asks.specs.Readings.{roots_of}
 use Rattle.top_down_sweep.proofs.Known.{kept_asks, first_known}
@@ -11,6 +11,7 @@ use Rattle.top_down_sweep.proofs.Orders.{none_ordered}
 use Rattle.top_down_sweep.proofs.Phases.{step_at, trusted_at}
 use Rattle.top_down_sweep.specs.Ordered.{IsOrderedAt}
 use Rattle.std.proofs.lemmas.Result.{on_ok_weaker}
+use Rattle.top_down_sweep.proofs.Doing.{does_more, does_ok, does_err}
 use Rattle.top_down_sweep.proofs.machine.Machine.begin.Goals as goal
 
 -- it is constant
@@ -75,3 +76,17 @@ returns-in_ok-ask_first-in-Go-clause-fewer g c told t rule fresh =
 pub returns-in-End-clause-fewer : goal.returns-in-End-clause-fewer
 returns-in-End-clause-fewer g c told t rule fresh = ended_left t phases.Fresh c.args.self.now
     c.end.new.self (g.S.Shelf.world c.args.shelf.now) (g.S.Shelf.world c.end.new.shelf) c.end.result c.end.ensures.turn _ c.end.ensures.made
+
+-- what each way out leaves and costs
+pub returns-in-End-clause-does : goal.returns-in-End-clause-does
+returns-in-End-clause-does g c = does_more g.S.Shelf.tells g.S.Shelf.world g.S.Shelf.faults 4 48 0 3 _ _ _ _
+    c.end.result (omega arith) (omega arith) c.end.ensures.does
+
+pub returns-in_ok-ask_first-in-Go-clause-does : goal.returns-in_ok-ask_first-in-Go-clause-does
+returns-in_ok-ask_first-in-Go-clause-does g c = does_ok g.S.Shelf.tells g.S.Shelf.world g.S.Shelf.faults 48 3 _ _ _ _
+    c.ask_first.result _ c.ask_first.ensures.does
+
+pub returns-in_err-ask_first-in-Go-clause-does : goal.returns-in_err-ask_first-in-Go-clause-does
+returns-in_err-ask_first-in-Go-clause-does g c = does_err g.S.Shelf.tells g.S.Shelf.world g.S.Shelf.faults 48 3 _ _ _ _
+    c.from_residual.result c.ask_first.result c.in_err-ask_first-in-Go.field-0.0 c.from_residual.ensures.1
+    c.in_err-ask_first-in-Go.was c.ask_first.ensures.does
