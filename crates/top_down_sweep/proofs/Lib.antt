@@ -1,4 +1,5 @@
 pub mod Doing
+pub mod Idle
 pub mod Phases
 pub mod Numbers
 pub mod FuelLaws

@@ -5,8 +5,9 @@ use Rattle.arc_file.specs.Writers.{HoldsArcs}
 use Rattle.top_down.specs.Asks.{side_arcs}
 use Rattle.arc_file.specs.declared.arc.Arc.{Arc}
 use Rattle.std.proofs.lemmas.Result.{on_ok_weaker}
-use Rattle.std.proofs.Common.{◌∙◌, ◌++◌, ap, sym, subst, append-nil}
+use Rattle.std.proofs.Common.{◌∙◌, ◌++◌, ap, sym, subst, append-nil, arith}
 use Rattle.top_down_sweep.proofs.Known.{some_both, below_known}
+use Rattle.top_down_sweep.proofs.Doing.{does_more}
 use Rattle.top_down_sweep.proofs.machine.Machine.ask_side.Goals as goal
 
 -- where the side is constant the asks that wait stay
@@ -79,3 +80,11 @@ returns-in-Go-clause-arcs g c = on_ok_weaker c.ask_for.result (λ keeps told xs 
     (goal_from rule _ c.args.uid c.args.high _ _ _ c.args.members.now _ _ c.level_at.ensures.level
     c.on_side-lows.ensures c.on_side-highs.ensures c.below-below.ensures c.goal.ensures c.in-Go.is)
     ∙ append-nil ys)) (keeps told xs ys held)) c.ask_for.ensures.arcs
+
+-- what either leaves and costs
+pub returns-in-End-clause-does : goal.returns-in-End-clause-does
+returns-in-End-clause-does g c = does_more g.S.Shelf.tells g.S.Shelf.world g.S.Shelf.faults 1 48 0 3 _ _ _ _
+    c.put.result (omega arith) (omega arith) c.put.ensures.does
+
+pub returns-in-Go-clause-does : goal.returns-in-Go-clause-does
+returns-in-Go-clause-does g c = c.ask_for.ensures.does

@@ -6,6 +6,7 @@ use Rattle.arc_file.specs.declared.arc.Arc.{Arc}
 use Rattle.std.proofs.lemmas.Result.{on_ok_weaker}
 use Rattle.std.proofs.Common.{ap, arith}
 use Rattle.top_down_sweep.proofs.MetOnes.{only_written}
+use Rattle.top_down_sweep.proofs.Idle.{does_none}
 use Rattle.top_down_sweep.proofs.machine.Machine.put_inner.Goals as goal
 
 -- nobody asked
@@ -60,3 +61,10 @@ returns-clause-arcs g c = on_ok_weaker c.put.result (λ put told xs ys held.
       high = ap (λ (s : Source). s.high) source i;
       target = c.ptr.ensures.value i;
     }) (put told xs ys held)) c.put.ensures.arcs
+
+-- nothing was done, or what putting the arc does
+pub returns-in_default-clause-does : goal.returns-in_default-clause-does
+returns-in_default-clause-does g c = does_none g.S.Shelf.tells g.S.Shelf.world g.S.Shelf.faults 1 0 _ _ _
+
+pub returns-clause-does : goal.returns-clause-does
+returns-clause-does g c = c.put.ensures.does

@@ -1,4 +1,4 @@
-use Rattle.std.proofs.Common.{◌≡◌, ◌*◌, ◌∙◌, refl, ap, sym, subst, arith}
+use Rattle.std.proofs.Common.{◌≡◌, ◌≤◌, ◌*◌, ◌∙◌, refl, ap, sym, subst, arith}
 use Rattle.shelf_model.specs.Calls.{Told}
 use Rattle.shelf_model.specs.World.{file}
 use Rattle.arc_file.specs.declared.unreduced.Unreduced.{Unreduced}
@@ -6,7 +6,8 @@ use Rattle.arc_file.specs.Arcs.{arc_size}
 use Rattle.arc_file.specs.Files.{BeginWith}
 use Rattle.arc_file.specs.Pairs.{CutBoth}
 use Rattle.arc_file.specs.Writers.{made_of, HoldsArcs}
-use Rattle.level_queue.specs.Tables.{AreTables, ServeTables, NamesAny, TablesList}
+use Rattle.level_queue.specs.Queues.{credit}
+use Rattle.level_queue.specs.Tables.{AreTables, ServeTables, NamesAny, TablesList, tables_left}
 use Rattle.node_reading.proofs.NodeReading.{if_handed}
 use Rattle.node_reading.proofs.Spent.{not_spent}
 use Rattle.sweep_core.specs.Accounts.{CanBeTaken}
@@ -184,3 +185,14 @@ returns-clause-remains g c = λ told t rule begins tuples turns goes.
       runs = λ f run. subst (λ ts. NamesAny from.step ts f) c.queue_tables-tables.ensures (c.thaw.ensures.runs f run);
     } in
     restores from x c.requires.rules old mid new m is t rule begins tuples turns goes
+
+-- what it owes and has paid for
+pub returns-clause-credit : goal.returns-clause-credit
+returns-clause-credit g c = subst (λ ts. credit c.thaw.result ≤ 64 * tables_left ts) c.queue_tables-tables.ensures
+    (subst (λ n. credit c.thaw.result ≤ 64 * n) c.thaw.ensures.count c.thaw.ensures.credit)
+
+pub returns-clause-stock : goal.returns-clause-stock
+returns-clause-stock g c = c.thaw.ensures.stock
+
+pub returns-in_err-operands-clause-calls : goal.returns-in_err-operands-clause-calls
+returns-in_err-operands-clause-calls g c = λ told. let first = c.operands.ensures.calls told in omega (arith, first)

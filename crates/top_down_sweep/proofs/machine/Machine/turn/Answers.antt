@@ -1,4 +1,4 @@
-use Rattle.std.proofs.Common.{sym, subst}
+use Rattle.std.proofs.Common.{sym, subst, arith}
 use Rattle.std.specs.Prelude.{None}
 use Rattle.top_down_sweep.specs.Turns.{TurnsFall}
 use Rattle.top_down_sweep.proofs.Holding.{if_err_map}
@@ -6,7 +6,8 @@ use Rattle.std.proofs.lemmas.Result.{on_ok_weaker}
 use Rattle.top_down_sweep.specs.Meaning.{RemainsIn}
 use Rattle.top_down_sweep.proofs.Phases.{trusts_in}
 use Rattle.top_down_sweep.specs.Trusting.{fresh_holds}
-use Rattle.top_down_sweep.proofs.Doing.{no_damage}
+use Rattle.top_down_sweep.proofs.Doing.{no_damage, does_more}
+use Rattle.top_down_sweep.proofs.Idle.{does_none}
 use Rattle.top_down_sweep.proofs.machine.Machine.turn.Goals as goal
 
 -- what its turns put stands there in each phase
@@ -71,3 +72,14 @@ returns-in-Asking-clause-fewer g c told t rule remains =
     (g.S.Shelf.world c.go_on.new.shelf) c.go_on.result) (sym c.in-Asking.is)
     (c.go_on.ensures.fewer told t rule
     (subst (λ p. RemainsIn t begins p c.args.self.now old) c.in-Asking.is remains))
+
+-- what each phase leaves and costs
+pub returns-in-Fresh-clause-does : goal.returns-in-Fresh-clause-does
+returns-in-Fresh-clause-does g c = does_more g.S.Shelf.tells g.S.Shelf.world g.S.Shelf.faults 48 113 3 6 _ _ _ _
+    c.begin.result (omega arith) (omega arith) c.begin.ensures.does
+
+pub returns-in-Asking-clause-does : goal.returns-in-Asking-clause-does
+returns-in-Asking-clause-does g c = c.go_on.ensures.does
+
+pub returns-in-Ended-clause-does : goal.returns-in-Ended-clause-does
+returns-in-Ended-clause-does g c = does_none g.S.Shelf.tells g.S.Shelf.world g.S.Shelf.faults 113 6 _ _ _
