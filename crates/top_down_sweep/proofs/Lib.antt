@@ -1,5 +1,6 @@
 pub mod Doing
 pub mod Idle
+pub mod Counts
 pub mod Phases
 pub mod Numbers
 pub mod FuelLaws

@@ -4,6 +4,7 @@ use Rattle.top_down_sweep.proofs.StandingOn.{shows_ask, shows_undamaged, arcs_sh
 use Rattle.top_down_sweep.proofs.Doing.{on_ok}
 use Rattle.top_down_sweep.proofs.Holding.{shown_at}
 use Rattle.top_down_sweep.proofs.FuelLaws.{first_shown}
+use Rattle.top_down_sweep.proofs.Counts.{as_many}
 use Rattle.top_down_sweep.proofs.machine.Machine.first_ask.Goals as goal
 
 -- no file was changed
@@ -40,3 +41,6 @@ returns-clause-arcs g c = on_ok c.peek.result (λ told. arcs_shown c.args.self.n
 pub returns-clause-undamaged : goal.returns-clause-undamaged
 returns-clause-undamaged g c = shows_undamaged g.S.Shelf.tells g.S.Shelf.world _ _
     c.args.self.now c.peek.new.self c.peek.result c.peek.ensures.list
+
+pub returns-clause-load : goal.returns-clause-load
+returns-clause-load g c = as_many _ _ c.peek.result c.peek.ensures.count

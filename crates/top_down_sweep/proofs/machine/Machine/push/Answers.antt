@@ -3,6 +3,7 @@ use Rattle.top_down_sweep.proofs.Holding.{put_at, served_on}
 use Rattle.std.proofs.Common.{rules}
 use Rattle.top_down_sweep.proofs.Doing.{on_ok}
 use Rattle.top_down_sweep.proofs.QueueCalls.{does_put, spilled_at_work}
+use Rattle.top_down_sweep.proofs.Counts.{one_more}
 use Rattle.top_down_sweep.proofs.machine.Machine.push.Goals as goal
 
 -- only files of parts that were taken changed
@@ -51,3 +52,6 @@ pub returns-clause-undamaged : goal.returns-clause-undamaged
 returns-clause-undamaged g c = joins_undamaged g.S.Shelf.tells g.S.Shelf.world _ _
     c.args.self.now c.push.new.self c.push.new.parts c.push.ensures.content c.args.ask
     c.push.result c.push.ensures.list
+
+pub returns-clause-load : goal.returns-clause-load
+returns-clause-load g c = one_more _ _ c.push.result c.push.ensures.count

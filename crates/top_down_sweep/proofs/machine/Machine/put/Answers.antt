@@ -51,3 +51,17 @@ returns-clause-written g c told k stands = stands_written 1 c.args.self.now _ _ 
     }) c.requires.fit.sound.operands (c.put.ensures.content.did told)
     (c.in_ok-put.ensures.arcs told k.inner k.ends stands.written)
     (returns-clause-one g c ∙ one_put _ k.ends c.args.arc stands.one_is) stands
+
+pub returns-in_err-put-clause-one : goal.returns-in_err-put-clause-one
+returns-in_err-put-clause-one g c = elim c.if-self.branch [
+  | then-self w ↦ w.self-is ∙ w.if-self.true ∙ sym (ap (λ b. b || leads_to_one c.args.arc) w.if-self.true)
+  | else-self w ↦ w.self-is ∙ w.eq-self.ensures ∙ ap (λ p. c.args.arc.target == p) w.terminal.ensures
+      ∙ sym (ap (λ b. b || leads_to_one c.args.arc) w.if-self.false)
+]
+
+-- and so many stand there
+pub returns-clause-count : goal.returns-clause-count
+returns-clause-count g c = c.in_ok-put.ensures.inner
+
+pub returns-clause-arcs : goal.returns-clause-arcs
+returns-clause-arcs g c = c.in_ok-put.ensures.arcs

@@ -1,11 +1,12 @@
 use Rattle.node_reading.proofs.NodeReading.{if_handed}
 use Rattle.top_down_sweep.proofs.StandingOn.{first_taken, takes_ask, takes_undamaged, arcs_spilled}
 use Rattle.top_down_sweep.proofs.Holding.{taken_at, served_on}
-use Rattle.level_queue.specs.Queues.{held, shown}
+use Rattle.level_queue.specs.Queues.{held, shown, last_of}
 use Rattle.top_down_sweep.proofs.Doing.{does_ok, does_err}
 use Rattle.top_down_sweep.proofs.QueueCalls.{does_taken, spilled_at_work}
 use Rattle.top_down_sweep.proofs.FuelLaws.{taken_count}
 use Rattle.top_down_sweep.proofs.Phases.{phase_taken}
+use Rattle.top_down_sweep.proofs.Counts.{taken_last}
 use Rattle.top_down_sweep.proofs.machine.Machine.take.Goals as goal
 
 -- only files of parts that were taken changed
@@ -75,3 +76,9 @@ returns-in_err-take-clause-undamaged g c = if_handed _ c.from_residual.result _
     c.from_residual.ensures.1 (takes_undamaged g.S.Shelf.tells g.S.Shelf.world _ _ c.args.self.now
     c.take.new.self c.take.new.parts c.take.ensures.content c.in_err-take.field-0.0
     c.in_err-take.ensures.list)
+
+-- it was taken last
+pub returns-clause-last : goal.returns-clause-last
+returns-clause-last g c = taken_last (last_of c.args.self.now.queue) (last_of c.take.new.self)
+    (shown c.args.self.now.queue) c.in_ok-take.field-0 c.args.ask.now c.requires.shown c.in_ok-take.ensures.again
+    c.in_ok-take.ensures.last
