@@ -1,5 +1,7 @@
 pub mod Doing
 pub mod Idle
+pub mod BegunSweeps
+pub mod Rests
 pub mod Counts
 pub mod Phases
 pub mod Numbers

@@ -24,10 +24,10 @@ use Rattle.tuple_asks.specs.Operands.{AreReadTo}
 use Rattle.rec_words.specs.Words.{level_of}
 use Rattle.tuple_asks.specs.declared.operand.Operands.{Operands}
 use Rattle.tuple_asks.specs.declared.place.Place.{Place}
-use Rattle.top_down_sweep.specs.declared.machine.Machine.{Machine}
 use Rattle.top_down_sweep.specs.Sweeps.{IsAsking}
 use Rattle.top_down_sweep.proofs.Doing.{then_more, does_more, does_err, refused_second, on_ok}
 use Rattle.top_down_sweep.proofs.Phases.{still_asking}
+use Rattle.top_down_sweep.proofs.Rests.{numbered_last, numbered_operands, numbered_queue, queued_operands, queued_phase, queued_place, written_last, written_phase, written_place}
 use Rattle.top_down_sweep.proofs.machine.Machine.answer.Goals as goal
 
 -- the ask was taken, and its arc was put
@@ -88,7 +88,8 @@ returns-in_err-take-clause-does g c = does_more g.S.Shelf.tells g.S.Shelf.world 
 pub returns-in-Some-clause-phase : goal.returns-in-Some-clause-phase
 returns-in-Some-clause-phase g c = on_ok c.put_inner.result
     (still_asking c.args.self.now c.put_inner.new.self _ c.requires.phase
-    (ap (λ (m : Machine). m.place) c.put_inner.ensures.rest ∙ ap (λ (m : Machine). m.place)
+    (written_place c.take.new.self c.put_inner.new.self
+    c.put_inner.ensures.rest ∙ queued_place c.args.self.now c.take.new.self
     c.take.ensures.rest))
 
 -- the ask is the first of those that wait, and the others wait after each call
@@ -103,8 +104,8 @@ returns-clause-holds g c = on_ok_weaker c.ask_side-2.result (λ holds told bytes
     let after_low = c.ask_side-2.ensures.does.leaves.content.before told in
     let after_number = c.ask_side.ensures.does.leaves.content.before after_low in
     let after_take = c.number.ensures.does.leaves.content.before after_number in
-    let same : c.number.new.self.operands ≡ c.args.self.now.operands = ap
-    (λ (m : Machine). m.operands) c.number.ensures.rest ∙ ap (λ (m : Machine). m.operands)
+    let same : c.number.new.self.operands ≡ c.args.self.now.operands = numbered_operands c.take.new.self c.number.new.self
+    c.number.ensures.rest ∙ queued_operands c.args.self.now c.take.new.self
     c.take.ensures.rest in
     let read : AreReadTo (level_of c.in_ok-uid.uid) c.args.self.now.operands =
     read_level c.args.self.now.operands c.args.ask.now (level_of c.in_ok-uid.uid)
@@ -137,8 +138,8 @@ returns-clause-undamaged g c = if_err_map c.ask_side-2.result (λ e none told by
     let after_low = c.ask_side-2.ensures.does.leaves.content.before told in
     let after_number = c.ask_side.ensures.does.leaves.content.before after_low in
     let after_take = c.number.ensures.does.leaves.content.before after_number in
-    let same : c.number.new.self.operands ≡ c.args.self.now.operands = ap
-    (λ (m : Machine). m.operands) c.number.ensures.rest ∙ ap (λ (m : Machine). m.operands)
+    let same : c.number.new.self.operands ≡ c.args.self.now.operands = numbered_operands c.take.new.self c.number.new.self
+    c.number.ensures.rest ∙ queued_operands c.args.self.now c.take.new.self
     c.take.ensures.rest in
     let read : AreReadTo (level_of c.in_ok-uid.uid) c.args.self.now.operands =
     read_level c.args.self.now.operands c.args.ask.now (level_of c.in_ok-uid.uid)
@@ -153,12 +154,13 @@ returns-clause-undamaged g c = if_err_map c.ask_side-2.result (λ e none told by
 pub returns-clause-load : goal.returns-clause-load
 returns-clause-load g c = two_more c.args.self.now c.take.new.self c.number.new.self
     c.ask_side.new.self c.ask_side-2.new.self c.ask_side-2.result c.in_ok-take.ensures.load
-    (ap (λ (m : Machine). m.queue) c.number.ensures.rest) c.in_ok-ask_side.ensures.load
+    (numbered_queue c.take.new.self c.number.new.self
+    c.number.ensures.rest) c.in_ok-ask_side.ensures.load
     c.ask_side-2.ensures.load
 
 pub returns-clause-last : goal.returns-clause-last
 returns-clause-last g c = on_ok c.ask_side-2.result
-    (c.ask_side-2.ensures.last ∙ c.ask_side.ensures.last ∙ ap (λ (m : Machine). last_of m.queue)
+    (c.ask_side-2.ensures.last ∙ c.ask_side.ensures.last ∙ numbered_last c.take.new.self c.number.new.self
     c.number.ensures.rest ∙ c.in_ok-take.ensures.last)
 
 -- a known number answered it
@@ -171,9 +173,12 @@ returns-in-Some-clause-keeps g c = on_ok_weaker c.put_inner.result (λ put told 
     c.in-Some.known taken.0
     (is_known c.args.asking.now.last c.args.ask.now c.in-Some.known (sym c.known.ensures ∙ c.in-Some.is))
     taken.1
-    (ap (λ (m : Machine). last_of m.queue) c.put_inner.ensures.rest ∙ c.in_ok-take.ensures.last)
-    (ap (λ (m : Machine). m.place.phase) c.put_inner.ensures.rest
-    ∙ ap (λ (m : Machine). m.place.phase) c.take.ensures.rest ∙ c.requires.phase)
+    (written_last c.take.new.self c.put_inner.new.self
+    c.put_inner.ensures.rest ∙ c.in_ok-take.ensures.last)
+    (written_phase c.take.new.self c.put_inner.new.self
+    c.put_inner.ensures.rest
+    ∙ queued_phase c.args.self.now c.take.new.self
+    c.take.ensures.rest ∙ c.requires.phase)
     (put told then taken.2)) c.put_inner.ensures.written
 
 -- its tuple got a number, and its two sides are served
@@ -204,7 +209,8 @@ returns-clause-keeps g c = on_ok_weaker c.ask_side-2.result (λ serves told t ru
     (unknown_where s.last a c.known.result c.known.ensures c.in_default.not-Some) uid_is
     (λ side i. goal_below (sym rule i) (c.in_ok-uid.ensures.level i) side (filled i))
     taken.1 low.1 high.1
-    (c.ask_side-2.ensures.last ∙ c.ask_side.ensures.last ∙ ap (λ (m : Machine). last_of m.queue) c.number.ensures.rest ∙ c.in_ok-take.ensures.last)
+    (c.ask_side-2.ensures.last ∙ c.ask_side.ensures.last ∙ numbered_last c.take.new.self c.number.new.self
+    c.number.ensures.rest ∙ c.in_ok-take.ensures.last)
     (ap (λ (p : Place). p.phase) c.ask_side-2.ensures.place ∙ ap (λ (p : Place). p.phase) c.ask_side.ensures.place ∙ c.in_ok-uid.ensures.placed)
     (subst (λ (w : ℕ). StandsFor c.ask_side-2.new.self (g.S.Shelf.world c.ask_side-2.new.shelf) (record h.contents {
       asks = high.0;
@@ -221,14 +227,17 @@ returns-in-Some-clause-ordered g c = on_ok_weaker c.put_inner.result (λ put tol
     let mid = c.put_inner.ensures.does.leaves.content.before told in
     let h = put_of m (g.S.Shelf.world c.args.shelf.now) s c.requires.phase ordered in
     put_at c.put_inner.new.self (g.S.Shelf.world c.put_inner.new.shelf) s
-    (ap (λ (m : Machine). m.place.phase) c.put_inner.ensures.rest
-    ∙ ap (λ (m : Machine). m.place.phase) c.take.ensures.rest ∙ c.requires.phase)
+    (written_phase c.take.new.self c.put_inner.new.self
+    c.put_inner.ensures.rest
+    ∙ queued_phase c.args.self.now c.take.new.self
+    c.take.ensures.rest ∙ c.requires.phase)
     (record {
       inner = h.inner ++ answer_arcs a.asker c.in-Some.known;
       ends = h.ends;
       held = put told h.inner h.ends (c.in_ok-take.ensures.arcs mid h.inner h.ends h.held);
       put = subst (λ o. ArePut s.last o (h.inner ++ answer_arcs a.asker c.in-Some.known) h.ends)
-          (sym (ap (λ (m : Machine). last_of m.queue) c.put_inner.ensures.rest ∙ c.in_ok-take.ensures.last))
+          (sym (written_last c.take.new.self c.put_inner.new.self
+    c.put_inner.ensures.rest ∙ c.in_ok-take.ensures.last))
           (put_known s.last (last_of m.queue) a c.in-Some.known h.inner h.ends
           (last_few m.writer _ m.place.phase s c.requires.phase c.requires.fit.sound.phase)
           c.requires.shown.value.form.key_is (and_parts _ _ c.requires.shown.value.sound).1
@@ -251,7 +260,8 @@ returns-clause-ordered g c = on_ok_weaker c.ask_side-2.result (λ high told orde
     let inner = h.inner ++ answer_arcs a.asker (identifier (next_numbered s a)) in
     let ends = h.ends ++ side_arcs uid false (goal_of false) in
     let last : last_of c.ask_side-2.new.self.queue ≡ Some a = c.ask_side-2.ensures.last ∙ c.ask_side.ensures.last
-    ∙ ap (λ (m : Machine). last_of m.queue) c.number.ensures.rest ∙ c.in_ok-take.ensures.last in
+    ∙ numbered_last c.take.new.self c.number.new.self
+    c.number.ensures.rest ∙ c.in_ok-take.ensures.last in
     put_at c.ask_side-2.new.self (g.S.Shelf.world c.ask_side-2.new.shelf)
     (record { root = s.root; last = Some (next_numbered s a) })
     (ap (λ (p : Place). p.phase) c.ask_side-2.ensures.place ∙ ap (λ (p : Place). p.phase) c.ask_side.ensures.place ∙ c.in_ok-uid.ensures.placed)

@@ -1,8 +1,10 @@
-use Rattle.std.proofs.Common.{◌≡◌, ◌+◌, ◌*◌, subst, IfOk, IfErr, IsTrue}
+use Rattle.std.proofs.Common.{◌≡◌, ◌+◌, ◌*◌, ap, subst, arith, IfOk, IfErr, IsTrue}
+use Rattle.shelf_model.specs.declared.file_no.FileNo.{FileNo}
 use Rattle.std.specs.Prelude.{length}
 use Rattle.sweep_core.specs.Sweeps.{IsNoDamage}
 use Rattle.top_down_sweep.specs.Meaning.{Task, IsTaskOn, Remains}
 use Rattle.top_down_sweep.specs.Turns.{Work, nodes_of, left_of}
+use Rattle.top_down_sweep.proofs.BegunSweeps.{begun_of}
 use Rattle.top_down_sweep.proofs.sweep.TopDownSweep.begin.Goals as goal
 
 -- the files are the operands' and the next two parts, and the parts are those of the same step
@@ -29,3 +31,11 @@ returns-clause-left g c = subst (λ v. v) (λ j. IfOk c.start.result (λ s.
     (c.in_ok-files.ensures.files j) (c.in_ok-files.ensures.after j).step
     (g.S.Shelf.world c.args.shelf.now) → left_of s (g.S.Shelf.world c.start.new.shelf) w
     ≡ 6 * length w.tuples + nodes_of w.task.diagrams + 5)) c.start.ensures.left
+
+pub returns-clause-begun : goal.returns-clause-begun
+returns-clause-begun g c = begun_of g.O.Operation.rule g.O.Operation.begins g.S.Shelf.tells g.S.Shelf.world _ _ _ _ _ _
+    c.start.result c.in_ok-files.ensures.files c.in_ok-files.ensures.after
+    (λ same. let part : c.args.parts.next ≡ c.args.parts.next + 1 = ap (λ (f : FileNo). f.part) same in
+    absurd (omega (arith, part)))
+    c.start.ensures.ready c.start.ensures.in_step c.start.ensures.trusts c.start.ensures.files c.start.ensures.parts
+    c.start.ensures.made c.start.ensures.stock c.start.ensures.calls
