@@ -1,7 +1,7 @@
 use Rattle.std.proofs.Common.{true, false, ℕ, ◌<◌, ◌^◌, ◌++◌, ◌∙◌, ap, sym, subst, arith, ◌≡◌}
 use Rattle.top_down_laws.specs.Remains.{answer_arcs}
 use Rattle.top_down.specs.Asks.{side_arcs}
-use Rattle.tuple_asks.specs.Soundness.{identifier, next_numbered}
+use Rattle.tuple_asks.specs.Soundness.{identifier, next_numbered, is_keyed, asks_above}
 use Rattle.top_down_sweep.specs.Ordered.{ArePut}
 use Rattle.top_down_sweep.proofs.Numbers.{last_few}
 use Rattle.top_down_sweep.proofs.Orders.{put_of, put_at, put_known, put_new}
@@ -96,7 +96,8 @@ returns-in-Some-clause-phase g c = on_ok c.put_inner.result
 pub returns-in-Some-clause-holds : goal.returns-in-Some-clause-holds
 returns-in-Some-clause-holds g c = on_ok_weaker c.put_inner.result (λ holds told bytes stays knows first.
     holds told bytes (c.in_ok-take.ensures.holds (c.put_inner.ensures.does.leaves.content.before told) bytes
-    (first_holds bytes c.args.ask.now c.args.self.now _ first))) c.put_inner.ensures.holds
+    (first_holds bytes c.args.ask.now c.args.self.now
+    (g.S.Shelf.world c.args.shelf.now) first))) c.put_inner.ensures.holds
 
 -- no operand was read past its level
 pub returns-clause-holds : goal.returns-clause-holds
@@ -109,20 +110,23 @@ returns-clause-holds g c = on_ok_weaker c.ask_side-2.result (λ holds told bytes
     c.take.ensures.rest in
     let read : AreReadTo (level_of c.in_ok-uid.uid) c.args.self.now.operands =
     read_level c.args.self.now.operands c.args.ask.now (level_of c.in_ok-uid.uid)
-    c.in_ok-uid.ensures.level (first_fits bytes c.args.ask.now c.args.self.now _ first) in
+    c.in_ok-uid.ensures.level (first_fits bytes c.args.ask.now c.args.self.now
+    (g.S.Shelf.world c.args.shelf.now) first) in
     holds told (subst (λ (o : Operands). AreReadTo (level_of c.in_ok-uid.uid) o)
     (sym (c.ask_side.ensures.operands ∙ same)) read) bytes stays knows
     (c.in_ok-ask_side.ensures.holds after_low
     (subst (λ (o : Operands). AreReadTo (level_of c.in_ok-uid.uid) o) (sym same) read) bytes stays knows
     (c.in_ok-uid.ensures.holds after_number bytes
     (c.in_ok-take.ensures.holds after_take bytes
-    (first_holds bytes c.args.ask.now c.args.self.now _ first))))) c.ask_side-2.ensures.holds
+    (first_holds bytes c.args.ask.now c.args.self.now
+    (g.S.Shelf.world c.args.shelf.now) first))))) c.ask_side-2.ensures.holds
 
 -- and none of them finds damage
 pub returns-in_err-take-clause-undamaged : goal.returns-in_err-take-clause-undamaged
 returns-in_err-take-clause-undamaged g c = if_handed _ c.from_residual.result _
     c.from_residual.ensures.1 (λ told bytes first. c.in_err-take.ensures.undamaged told bytes
-    (first_holds bytes c.args.ask.now c.args.self.now _ first))
+    (first_holds bytes c.args.ask.now c.args.self.now
+    (g.S.Shelf.world c.args.shelf.now) first))
 
 pub returns-in_err-ask_side-clause-undamaged : goal.returns-in_err-ask_side-clause-undamaged
 returns-in_err-ask_side-clause-undamaged g c = if_handed _ c.from_residual-in_err-ask_side.result _
@@ -130,11 +134,13 @@ returns-in_err-ask_side-clause-undamaged g c = if_handed _ c.from_residual-in_er
     let after_number = c.ask_side.ensures.does.leaves.content.before told in
     let after_take = c.number.ensures.does.leaves.content.before after_number in
     c.in_err-ask_side.ensures.undamaged told bytes (c.in_ok-uid.ensures.holds after_number bytes
-    (c.in_ok-take.ensures.holds after_take bytes (first_holds bytes c.args.ask.now c.args.self.now _ first))))
+    (c.in_ok-take.ensures.holds after_take bytes (first_holds bytes c.args.ask.now c.args.self.now
+    (g.S.Shelf.world c.args.shelf.now) first))))
 
 pub returns-clause-undamaged : goal.returns-clause-undamaged
 returns-clause-undamaged g c = if_err_map c.ask_side-2.result (λ e none told bytes known_first.
-    let first = first_forgets bytes c.args.ask.now c.args.self.now _ known_first in
+    let first = first_forgets bytes c.args.ask.now c.args.self.now
+    (g.S.Shelf.world c.args.shelf.now) known_first in
     let after_low = c.ask_side-2.ensures.does.leaves.content.before told in
     let after_number = c.ask_side.ensures.does.leaves.content.before after_low in
     let after_take = c.number.ensures.does.leaves.content.before after_number in
@@ -143,12 +149,14 @@ returns-clause-undamaged g c = if_err_map c.ask_side-2.result (λ e none told by
     c.take.ensures.rest in
     let read : AreReadTo (level_of c.in_ok-uid.uid) c.args.self.now.operands =
     read_level c.args.self.now.operands c.args.ask.now (level_of c.in_ok-uid.uid)
-    c.in_ok-uid.ensures.level (first_fits None c.args.ask.now c.args.self.now _ first) in
+    c.in_ok-uid.ensures.level (first_fits None c.args.ask.now c.args.self.now
+    (g.S.Shelf.world c.args.shelf.now) first) in
     none told None (c.in_ok-ask_side.ensures.holds after_low
     (subst (λ (o : Operands). AreReadTo (level_of c.in_ok-uid.uid) o) (sym same) read) None tt tt
     (c.in_ok-uid.ensures.holds after_number None
     (c.in_ok-take.ensures.holds after_take None
-    (first_holds None c.args.ask.now c.args.self.now _ first))))) c.ask_side-2.ensures.undamaged
+    (first_holds None c.args.ask.now c.args.self.now
+    (g.S.Shelf.world c.args.shelf.now) first))))) c.ask_side-2.ensures.undamaged
 
 -- and at most two were put
 pub returns-clause-load : goal.returns-clause-load
@@ -169,7 +177,8 @@ returns-in-Some-clause-keeps g c = on_ok_weaker c.put_inner.result (λ put told 
     let mid = c.put_inner.ensures.does.leaves.content.before told in
     let taken = c.in_ok-take.ensures.list mid h.contents h.stands in
     let then : Contents = record h.contents { asks = taken.0 } in
-    known_works t c.args.asking.now c.args.ask.now c.args.self.now c.put_inner.new.self _ _ h
+    known_works t c.args.asking.now c.args.ask.now c.args.self.now c.put_inner.new.self
+    (g.S.Shelf.world c.args.shelf.now) (g.S.Shelf.world c.put_inner.new.shelf) h
     c.in-Some.known taken.0
     (is_known c.args.asking.now.last c.args.ask.now c.in-Some.known (sym c.known.ensures ∙ c.in-Some.is))
     taken.1
@@ -204,7 +213,8 @@ returns-clause-keeps g c = on_ok_weaker c.ask_side-2.result (λ serves told t ru
     } in
     let high = serves told third low.2 in
     let uid_is = c.in_ok-uid.ensures.number in
-    new_works t s a c.args.self.now c.ask_side-2.new.self _ _ h uid goal_of taken.0 low.0 high.0 none
+    new_works t s a c.args.self.now c.ask_side-2.new.self
+    (g.S.Shelf.world c.args.shelf.now) (g.S.Shelf.world c.ask_side-2.new.shelf) h uid goal_of taken.0 low.0 high.0 none
     (λ below. resolved (subst (λ (ms : Members). least (all_waiting (level_of a.key) ms) < 2 ^ 63) (sym filled) below))
     (unknown_where s.last a c.known.result c.known.ensures c.in_default.not-Some) uid_is
     (λ side i. goal_below (sym rule i) (c.in_ok-uid.ensures.level i) side (filled i))
@@ -239,8 +249,8 @@ returns-in-Some-clause-ordered g c = on_ok_weaker c.put_inner.result (λ put tol
           (sym (written_last c.take.new.self c.put_inner.new.self
     c.put_inner.ensures.rest ∙ c.in_ok-take.ensures.last))
           (put_known s.last (last_of m.queue) a c.in-Some.known h.inner h.ends
-          (last_few m.writer _ m.place.phase s c.requires.phase c.requires.fit.sound.phase)
-          c.requires.shown.value.form.key_is (and_parts _ _ c.requires.shown.value.sound).1
+          (last_few m.writer (last_of m.queue) m.place.phase s c.requires.phase c.requires.fit.sound.phase)
+          c.requires.shown.value.form.key_is (and_parts (is_keyed a) (asks_above a.asker a.key) c.requires.shown.value.sound).1
           c.requires.shown.no_less
           (is_known s.last a c.in-Some.known (sym c.known.ensures ∙ c.in-Some.is)) h.put);
     })) c.put_inner.ensures.arcs
@@ -274,7 +284,7 @@ returns-clause-ordered g c = on_ok_weaker c.ask_side-2.result (λ high told orde
       put = subst (λ o. ArePut (Some (next_numbered s a)) o inner (ends ++ side_arcs uid true (goal_of true)))
           (sym last)
           (put_new s (last_of m.queue) a uid (goal_of false) (goal_of true) h.inner h.ends
-          (last_few m.writer _ m.place.phase s c.requires.phase c.requires.fit.sound.phase)
-          c.requires.shown.value.form.key_is (and_parts _ _ c.requires.shown.value.sound).1
+          (last_few m.writer (last_of m.queue) m.place.phase s c.requires.phase c.requires.fit.sound.phase)
+          c.requires.shown.value.form.key_is (and_parts (is_keyed a) (asks_above a.asker a.key) c.requires.shown.value.sound).1
           c.requires.shown.no_less c.in_ok-uid.ensures.number c.in_ok-uid.ensures.level h.put);
     })) c.ask_side-2.ensures.arcs
