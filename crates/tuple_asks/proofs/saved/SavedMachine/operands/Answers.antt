@@ -1,6 +1,8 @@
 use Rattle.std.proofs.Common.{◌∙◌, arith}
 use Rattle.node_reading.proofs.NodeReading.{if_handed}
 use Rattle.node_reading.proofs.Staying.{stays_on}
+use Rattle.node_reading.proofs.Wholes.{fine}
+use Rattle.run_tiers.proofs.FaultLaws.{sort_shelf_then, sort_shelf_on}
 use Rattle.tuple_asks.specs.Resuming.{OfFirst, OfSecond, OfThird, reading_at}
 use Rattle.tuple_asks.proofs.Staying.{looked_same}
 use Rattle.tuple_asks.proofs.Staying.{fault_before, calls_before}
@@ -149,3 +151,45 @@ returns-clause-nodes g c = λ told roots d files among.
         third = third.read;
       };
     }
+
+-- the first one was looked at alone
+pub returns-in_err-first-clause-content : goal.returns-in_err-first-clause-content
+returns-in_err-first-clause-content g c = c.resume.ensures.content
+
+pub returns-in_err-first-clause-calls : goal.returns-in_err-first-clause-calls
+returns-in_err-first-clause-calls g c = λ told. let first = c.resume.ensures.calls told in omega (arith, first)
+
+-- and no fault but that of a failed call is counted
+pub returns-in_err-first-clause-faults : goal.returns-in_err-first-clause-faults
+returns-in_err-first-clause-faults g c = sort_shelf_on _ _ c.in_err-first.field-0.0 c.from_residual.result
+    c.from_residual.ensures.1 c.in_err-first.ensures.faults
+
+pub returns-in_err-second-clause-faults : goal.returns-in_err-second-clause-faults
+returns-in_err-second-clause-faults g c = sort_shelf_then _ _ _ _ _ c.in_ok-first.ensures.faults
+    (sort_shelf_on _ _ c.in_err-second.field-0.0 c.from_residual-in_err-second.result
+    c.from_residual-in_err-second.ensures.1 c.in_err-second.ensures.faults)
+
+pub returns-in_err-third-clause-faults : goal.returns-in_err-third-clause-faults
+returns-in_err-third-clause-faults g c = sort_shelf_then _ _ _ _ _ c.in_ok-first.ensures.faults
+    (sort_shelf_then _ _ _ _ _ c.in_ok-second.ensures.faults
+    (sort_shelf_on _ _ c.in_err-third.field-0.0 c.from_residual-in_err-third.result
+    c.from_residual-in_err-third.ensures.1 c.in_err-third.ensures.faults))
+
+pub returns-clause-faults : goal.returns-clause-faults
+returns-clause-faults g c = sort_shelf_then _ _ _ _ _ c.in_ok-first.ensures.faults
+    (sort_shelf_then _ _ _ _ _ c.in_ok-second.ensures.faults (fine _ _ _ _ c.in_ok-third.ensures.faults))
+
+-- all three are read on
+pub returns-clause-are : goal.returns-clause-are
+returns-clause-are g c = record {
+  first = c.in_ok-first.ensures.is;
+  second = c.in_ok-second.ensures.is;
+  third = c.in_ok-third.ensures.is;
+}
+
+pub returns-clause-files : goal.returns-clause-files
+returns-clause-files g c = record {
+  first_is = c.in_ok-first.ensures.file;
+  second_is = c.in_ok-second.ensures.file;
+  third_is = c.in_ok-third.ensures.file;
+}
