@@ -247,7 +247,7 @@ returns-in-Some-clause-ordered g c = on_ok_weaker c.put_inner.result (λ put tol
       held = put told h.inner h.ends (c.in_ok-take.ensures.arcs mid h.inner h.ends h.held);
       put = subst (λ o. ArePut s.last o (h.inner ++ answer_arcs a.asker c.in-Some.known) h.ends)
           (sym (written_last c.take.new.self c.put_inner.new.self
-    c.put_inner.ensures.rest ∙ c.in_ok-take.ensures.last))
+          c.put_inner.ensures.rest ∙ c.in_ok-take.ensures.last))
           (put_known s.last (last_of m.queue) a c.in-Some.known h.inner h.ends
           (last_few m.writer (last_of m.queue) m.place.phase s c.requires.phase c.requires.fit.sound.phase)
           c.requires.shown.value.form.key_is (and_parts (is_keyed a) (asks_above a.asker a.key) c.requires.shown.value.sound).1
