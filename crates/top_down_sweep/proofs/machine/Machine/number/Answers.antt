@@ -11,6 +11,7 @@ use Rattle.arc_file.specs.Writers.{inner_count, HoldsArcs}
 use Rattle.tuple_asks.specs.declared.place.Numbered.{Numbered}
 use Rattle.tuple_asks.specs.Soundness.{identifier}
 use Rattle.top_down_sweep.proofs.Numbers.{number_fits, few_arcs, level_of_node}
+use Rattle.top_down_sweep.proofs.Doing.{does_err}
 use Rattle.top_down_sweep.proofs.machine.Machine.number.Goals as goal
 
 -- the number is among those that the arcs allow
@@ -90,3 +91,9 @@ returns-clause-arcs g c told xs ys held =
     subst (λ (w : ℕ). HoldsArcs c.put_inner.new.self.writer (g.S.Shelf.world c.put_inner.new.shelf)
     (xs ++ answer_arcs c.args.ask.now.asker w) ys) (c.uid-uid.ensures ∙ ap identifier c.next-next.ensures)
     (c.in_ok-put_inner.ensures.arcs told xs ys held)
+
+-- its arc couldn't be put
+pub returns-in_err-put_inner-clause-does : goal.returns-in_err-put_inner-clause-does
+returns-in_err-put_inner-clause-does g c = does_err g.S.Shelf.tells g.S.Shelf.world g.S.Shelf.faults 1 0 _ _ _ _
+    c.from_residual.result c.put_inner.result c.in_err-put_inner.field-0.0 c.from_residual.ensures.1
+    c.in_err-put_inner.was c.put_inner.ensures.does

@@ -22,6 +22,8 @@ use Rattle.tuple_asks.specs.Operands.{AreOperands}
 use Rattle.top_down_sweep.specs.Sweeps.{IsPhaseAt}
 use Rattle.top_down_sweep.proofs.Restoring.{IsRebuilt, named_run, restores, phase_kept, arcs_sound, arcs_fault}
 use Rattle.tuple_asks.proofs.StartLeaves.{only_looked, then_cut}
+use Rattle.node_reading.proofs.Wholes.{stream_fine}
+use Rattle.run_tiers.proofs.FaultLaws.{sort_shelf_then, sort_shelf_on}
 use Rattle.top_down_sweep.proofs.machine.Machine.rebuild.Goals as goal
 
 pub resume-requires-clause-apart : goal.resume-requires-clause-apart
@@ -196,3 +198,16 @@ returns-clause-stock g c = c.thaw.ensures.stock
 
 pub returns-in_err-operands-clause-calls : goal.returns-in_err-operands-clause-calls
 returns-in_err-operands-clause-calls g c = λ told. let first = c.operands.ensures.calls told in omega (arith, first)
+
+-- which faults are counted
+pub returns-in_err-operands-clause-faults : goal.returns-in_err-operands-clause-faults
+returns-in_err-operands-clause-faults g c = sort_shelf_on _ _ c.in_err-operands.field-0.0 c.from_residual.result
+    c.from_residual.ensures.1 c.in_err-operands.ensures.faults
+
+pub returns-clause-faults : goal.returns-clause-faults
+returns-clause-faults g c = sort_shelf_then _ _ _ _ _ c.in_ok-operands.ensures.faults
+    (stream_fine _ _ _ _ c.in_ok-writer.ensures.faults)
+
+-- where it stands
+pub returns-clause-place : goal.returns-clause-place
+returns-clause-place g c = c.place.ensures

@@ -20,6 +20,9 @@ use Rattle.top_down_sweep.proofs.OperandsStay.{task_on}
 use Rattle.top_down_sweep.proofs.Known.{none_asks}
 use Rattle.top_down_sweep.specs.declared.machine.Machine.{Machine}
 use Rattle.tuple_asks.specs.declared.place.Phase.TheVariants.{Fresh}
+use Rattle.node_reading.proofs.Wholes.{stream_fine}
+use Rattle.run_tiers.proofs.FaultLaws.{sort_shelf_then, sort_shelf_on}
+use Rattle.tuple_asks.specs.Operands.{IsStartDamage}
 use Rattle.top_down_sweep.proofs.sweep.TopDownSweep.start.Goals as goal
 
 -- the operands were looked at, and the files of arcs were cut
@@ -144,3 +147,25 @@ returns-clause-left g c told w is =
     ap (λ nodes. 6 * length w.tuples + nodes + 5) (unread_is m
     (g.S.Shelf.world c.start-2.new.shelf) (first_contents w.task)
     (returns-clause-remains g c told w.task is).left.stands)
+
+-- why it is refused, and which faults are counted
+pub returns-in_err-operands-clause-refused : goal.returns-in_err-operands-clause-refused
+returns-in_err-operands-clause-refused g c = if_handed _ c.from_residual.result _ c.from_residual.ensures.1
+    c.in_err-operands.ensures.damage
+
+pub returns-in_err-writer-clause-refused : goal.returns-in_err-writer-clause-refused
+returns-in_err-writer-clause-refused g c = if_handed _ c.from_residual-in_err-writer.result _
+    c.from_residual-in_err-writer.ensures.1
+    (subst (λ e. IsStartDamage c.args.files (handed_on e)) (sym c.in_err-writer.ensures.cause) tt)
+
+pub returns-in_err-operands-clause-damage : goal.returns-in_err-operands-clause-damage
+returns-in_err-operands-clause-damage g c = if_handed _ c.from_residual.result _ c.from_residual.ensures.1
+    c.in_err-operands.ensures.trailer
+
+pub returns-in_err-operands-clause-faults : goal.returns-in_err-operands-clause-faults
+returns-in_err-operands-clause-faults g c = sort_shelf_on _ _ c.in_err-operands.field-0.0 c.from_residual.result
+    c.from_residual.ensures.1 c.in_err-operands.ensures.faults
+
+pub returns-clause-faults : goal.returns-clause-faults
+returns-clause-faults g c = sort_shelf_then _ _ _ _ _ c.in_ok-operands.ensures.faults
+    (stream_fine _ _ _ _ c.in_ok-writer.ensures.faults)
