@@ -2,12 +2,12 @@ use Rattle.top_down_sweep.specs.Meaning.{Contents}
 use Rattle.std.proofs.lemmas.Result.{on_ok_weaker}
 use Rattle.node_reading.proofs.NodeReading.{if_handed}
 use Rattle.top_down_sweep.proofs.Holding.{first_holds, first_fits, again_fits, if_err_map}
-use Rattle.std.proofs.Common.{[], ◌∷◌, sym, subst, arith}
+use Rattle.std.proofs.Common.{[], ◌∷◌, ◌∙◌, sym, subst, arith}
 use Rattle.tuple_asks.specs.declared.ask.Ask.{Ask}
 use Rattle.tuple_asks.specs.Operands.{Fits}
 use Rattle.top_down_sweep.specs.Waiting.{KnowsAsk}
 use Rattle.top_down_sweep.specs.Changes.{JoinAsks}
-use Rattle.top_down_sweep.proofs.Doing.{then_more, does_more, does_err}
+use Rattle.top_down_sweep.proofs.Doing.{then_more, does_more, does_err, on_ok}
 use Rattle.top_down_sweep.proofs.machine.Machine.ask_again.Goals as goal
 
 -- an ask was taken and another one was put
@@ -62,3 +62,13 @@ returns-in_err-take-clause-does g c = does_more g.S.Shelf.tells g.S.Shelf.world 
     (does_err g.S.Shelf.tells g.S.Shelf.world g.S.Shelf.faults 8 0 _ _ c.args.self.now c.take.new.self
     c.from_residual.result c.take.result c.in_err-take.field-0.0 c.from_residual.ensures.1 c.in_err-take.was
     c.take.ensures.does)
+
+-- as many wait, and it was taken last
+pub returns-clause-fit : goal.returns-clause-fit
+returns-clause-fit g c = c.push.ensures.fit
+
+pub returns-clause-load : goal.returns-clause-load
+returns-clause-load g c = on_ok_weaker c.push.result (λ put. put ∙ sym c.in_ok-take.ensures.load) c.push.ensures.load
+
+pub returns-clause-last : goal.returns-clause-last
+returns-clause-last g c = on_ok c.push.result (c.push.ensures.last ∙ c.in_ok-take.ensures.last)

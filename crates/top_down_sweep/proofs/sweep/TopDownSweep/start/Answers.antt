@@ -1,5 +1,5 @@
 use Rattle.top_down_sweep.specs.Meaning.{first_contents}
-use Rattle.std.proofs.Common.{◌+◌, ◌*◌, ◌≡◌, ap, inl, ◌∙◌, false, refl, sym, subst}
+use Rattle.std.proofs.Common.{◌+◌, ◌*◌, ◌≡◌, ap, inl, ◌∙◌, false, refl, sym, subst, arith}
 use Rattle.std.specs.Prelude.{length}
 use Rattle.top_down_sweep.proofs.TurnNumbers.{unread_is}
 use Rattle.top_down_laws.specs.Laws.{unread_all}
@@ -169,3 +169,20 @@ returns-in_err-operands-clause-faults g c = sort_shelf_on _ _ c.in_err-operands.
 pub returns-clause-faults : goal.returns-clause-faults
 returns-clause-faults g c = sort_shelf_then _ _ _ _ _ c.in_ok-operands.ensures.faults
     (stream_fine _ _ _ _ c.in_ok-writer.ensures.faults)
+
+-- few calls are made
+pub returns-in_err-operands-clause-few_calls : goal.returns-in_err-operands-clause-few_calls
+returns-in_err-operands-clause-few_calls g c = λ told.
+    let few = (c.start.ensures.content.did told).few in omega (arith, few)
+
+pub returns-in_err-writer-clause-few_calls : goal.returns-in_err-writer-clause-few_calls
+returns-in_err-writer-clause-few_calls g c = λ told.
+    let first = (c.start.ensures.content.did (c.start-2.ensures.content.before told)).few in
+    let second = (c.start-2.ensures.content.did told).few in
+    omega (arith, first, second)
+
+pub returns-clause-few_calls : goal.returns-clause-few_calls
+returns-clause-few_calls g c = λ told.
+    let first = (c.start.ensures.content.did (c.start-2.ensures.content.before told)).few in
+    let second = (c.start-2.ensures.content.did told).few in
+    omega (arith, first, second)
