@@ -1,5 +1,6 @@
 -- Whether one function implies another, seen as a sweep: what remains of that, and how many turns.
-use Rattle.std.specs.Prelude.{◌≡◌, ◌↔◌, ℕ, ◌+◌, ◌^◌, ◌<◌, Bool, true, false, IsTrue, List, [], ◌∷◌, Option, Some, None, IsSome, IfSome, Result, OnOk, IfErr, IsErrOf, ◌≤◌}
+use Rattle.std.specs.Prelude.{◌≡◌, ◌↔◌, ℕ, ◌+◌, ◌^◌, ◌<◌, Bool, true, false, IsTrue, List, [], ◌∷◌, Option, Some, None}
+use Rattle.std.specs.Prelude.{IsSome, IfSome, Result, OnOk, IfErr, IsErrOf, ◌≤◌}
 use Rattle.bool_tables.specs.Tables.{is_leq}
 use Rattle.bool_tables.specs.declared.steps.Bin.{Bin}
 use Rattle.bool_tables.specs.declared.steps.Step.TheVariants.{Pair}

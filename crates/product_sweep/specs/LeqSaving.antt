@@ -19,7 +19,8 @@ use Rattle.sweep_operations.specs.OperationWords.{product_spelling}
 use Rattle.top_down_sweep.specs.Resumes.{top_saving}
 use Rattle.top_down_sweep.specs.Sweeps.{SweepTask}
 use Rattle.product_sweep.specs.declared.leq.LeqSweep.{LeqSweep}
-use Rattle.product_sweep.specs.Implications.{Implication, refutation, Refutes, fuel_of, turns_left, accounts, IsDamage, task_of, IsReady, IsInStep, IsTrusted}
+use Rattle.product_sweep.specs.Implications.{Implication, refutation, Refutes, fuel_of, turns_left, accounts, IsDamage}
+use Rattle.product_sweep.specs.Implications.{task_of, IsReady, IsInStep, IsTrusted}
 use Rattle.product_sweep.specs.Products.{rule_of, begins_of}
 
 -- the words of an operator

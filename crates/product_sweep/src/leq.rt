@@ -38,7 +38,8 @@ impl<'r> LeqSweep<'r> {
     ghost use Rattle.top_down_sweep.specs.Sweeps.{parts_of, variables_of};
     ghost use Rattle.node_file.specs.Canonical.{IsCanonicalFile};
     ghost use Rattle.table_work.specs.Tables.{operand_files};
-    ghost use Rattle.product_sweep.specs.Implications.{IsReady, IsInStep, IsTrusted, product_in, Refutes, turns_left, TellsAnswer, Turned};
+    ghost use Rattle.product_sweep.specs.Implications.{IsReady, IsInStep, IsTrusted, product_in, Refutes, turns_left};
+    ghost use Rattle.product_sweep.specs.Implications.{TellsAnswer, Turned};
 
     /// Begins with the files of two diagrams of `n` variables, which may be one file. The next two parts are its files
     /// of arcs, and those behind them are for its queue.
@@ -55,8 +56,8 @@ impl<'r> LeqSweep<'r> {
         ensures ready { IfOk result IsReady }
         ensures in_step { IfOk result (λ s. IsTrue (S.tells shelf.new) → IsInStep s (S.world shelf.new)) }
         ensures trusts { IfOk result (λ s. IsTrue (S.tells shelf.new) → IsTrusted s (S.world shelf.new)) }
-        ensures begun { IfOk result (λ s. Begun rule_of begins_of S.tells S.world (files_from (operand_files f g g) parts)
-            (after_two parts) shelf.old shelf.new (product_in s)) }
+        ensures begun { IfOk result (λ s. Begun rule_of begins_of S.tells S.world
+            (files_from (operand_files f g g) parts) (after_two parts) shelf.old shelf.new (product_in s)) }
         ensures variables { IfOk result (λ s. variables_of (product_in s) ≡ n) }
         ensures leaves { Starts S.tells S.world S.faults n (files_from (operand_files f g g) parts) parts
             shelf.old shelf.new result }
@@ -133,7 +134,8 @@ impl<'r> Sweep<'r> for LeqSweep<'r> {
     ghost use Rattle.top_down_sweep.specs.Resumes.{Blames, top_saving};
     ghost use Rattle.top_down_sweep.specs.ResumeLaws.{stays, apart};
     ghost use Rattle.top_down_sweep.specs.Sweeps.{SweepTask};
-    ghost use Rattle.product_sweep.specs.Implications.{Implication, Refutes, fuel_of, turns_left, accounts, IsDamage, task_of, IsReady, IsInStep, IsTrusted};
+    ghost use Rattle.product_sweep.specs.Implications.{Implication, Refutes, fuel_of, turns_left, accounts, IsDamage};
+    ghost use Rattle.product_sweep.specs.Implications.{task_of, IsReady, IsInStep, IsTrusted};
     ghost use Rattle.product_sweep.specs.LeqSaving.{leq_saving, product_words, leq_stays};
     ghost use Rattle.product_sweep.specs.Products.{rule_of, begins_of};
     ghost use Rattle.product_sweep.specs.Trusting.{refutes_trusted};

@@ -1,5 +1,6 @@
 -- What is seen of an evaluation, what remains of it, and where the file is damaged.
-use Rattle.std.specs.Prelude.{◌≡◌, ◌≢◌, ◌⊎◌, ℕ, ◌+◌, ◌<◌, ◌≤◌, Bool, false, cond, List, length, get_or, Option, Some, None}
+use Rattle.std.specs.Prelude.{◌≡◌, ◌≢◌, ◌⊎◌, ℕ, ◌+◌, ◌<◌, ◌≤◌, Bool, false, cond, List, length, get_or, Option, Some}
+use Rattle.std.specs.Prelude.{None}
 use Rattle.bool_tables.specs.Tables.{value_at, place_of_bits}
 use Rattle.bool_tables.specs.Steps.{bits_at}
 use Rattle.rec_words.specs.Words.{level_of, terminal, IsNodeWord, IsPointer}

@@ -1,5 +1,6 @@
 -- The rules of the checkpoints of evaluations, what these rest on, and what they stand for.
-use Rattle.std.specs.Prelude.{◌≡◌, ◌≢◌, ◌⊎◌, ℕ, ◌+◌, ◌*◌, ◌/◌, ◌≤◌, Bool, List, length, take, Option, Some, None, IsSome}
+use Rattle.std.specs.Prelude.{◌≡◌, ◌≢◌, ◌⊎◌, ℕ, ◌+◌, ◌*◌, ◌/◌, ◌≤◌, Bool, List, length, take, Option, Some, None}
+use Rattle.std.specs.Prelude.{IsSome}
 use Rattle.std.proofs.Common.{refl, sym, ap, subst, ◌∙◌}
 use Rattle.bool_tables.specs.Tables.{value_at, place_of_bits}
 use Rattle.bool_tables.specs.Steps.{bits_at}

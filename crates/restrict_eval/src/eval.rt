@@ -43,7 +43,8 @@ impl<'r> EvalSweep<'r> {
     ghost use Rattle.sweep_core.specs.Sweeps.{Falls, AtEnd, StaysEnded, IsNoDamage};
     ghost use Rattle.node_reading.specs.Reading.{count_of, IsTrailerFault, IsFaultOf};
     ghost use Rattle.restrict_eval.specs.Turns.{AnswersAtEnd, Turns};
-    ghost use Rattle.restrict_eval.specs.Eval.{accounts, parts_of, bits_of, answer_of, turns_left, task_of, side_by, IsReady, IsInStep, HasCome, OneTable, RemainsOf, IsDamage, evaluations};
+    ghost use Rattle.restrict_eval.specs.Eval.{accounts, parts_of, bits_of, answer_of, turns_left, task_of, side_by};
+    ghost use Rattle.restrict_eval.specs.Eval.{IsReady, IsInStep, HasCome, OneTable, RemainsOf, IsDamage, evaluations};
 
     /// Begins the evaluation of the node file of a diagram of `n` variables. The bits of the assignment are the `n`
     /// bytes of the text from `at` on, each `0` or `1`.
@@ -239,7 +240,8 @@ fn level_at(node: &Node) -> usize
 
 impl<'r> Sweep<'r> for EvalSweep<'r> {
     ghost use Rattle.restrict_eval.specs.EvalResumes.{eval_saving, Blames, stays, apart};
-    ghost use Rattle.restrict_eval.specs.Eval.{accounts, turns_left, Evaluated, task_of, IsReady, IsInStep, HasCome, OneTable, RemainsOf, IsDamage};
+    ghost use Rattle.restrict_eval.specs.Eval.{accounts, turns_left, Evaluated, task_of, IsReady, IsInStep, HasCome};
+    ghost use Rattle.restrict_eval.specs.Eval.{OneTable, RemainsOf, IsDamage};
 
     ghost Job = { OneTable };
 

@@ -8,8 +8,10 @@ ghost use Rattle.run_tiers.specs.Faults.{OnlySortShelf};
 ghost use Rattle.sweep_core.specs.Carries.{OnlyCutBehind};
 ghost use Rattle.sweep_core.specs.Saving.{IsOfStep, reads_of};
 ghost use Rattle.sweep_core.specs.Sweeps.{IsNoDamage};
-ghost use Rattle.restrict_eval.specs.Eval.{accounts, task_of, turns_left, IsReady, IsInStep, Evaluated, OneTable, RemainsOf, IsPlaceAt};
-ghost use Rattle.restrict_eval.specs.EvalResumes.{eval_saving, Fits, Names, Evaluates, RestsOn, StandsFor, Blames, KeepsRules, saved_of, IsPassedFault};
+ghost use Rattle.restrict_eval.specs.Eval.{accounts, task_of, turns_left, IsReady, IsInStep, Evaluated, OneTable};
+ghost use Rattle.restrict_eval.specs.Eval.{RemainsOf, IsPlaceAt};
+ghost use Rattle.restrict_eval.specs.EvalResumes.{eval_saving, Fits, Names, Evaluates, RestsOn, StandsFor, Blames};
+ghost use Rattle.restrict_eval.specs.EvalResumes.{KeepsRules, saved_of, IsPassedFault};
 
 use crate::EvalSweep;
 use crate::following::Following;

@@ -38,7 +38,8 @@ impl<'r> SameSweep<'r> {
     ghost use Rattle.sweep_core.specs.Accounts.{Leaves};
     ghost use Rattle.sweep_core.specs.Sweeps.{Falls, AtEnd, StaysEnded, IsNoDamage};
     ghost use Rattle.node_reading.specs.Reading.{count_of, IsTrailerFault};
-    ghost use Rattle.restrict_eval.specs.Same.{accounts, parts_of, answer_of, turns_left, task_of, IsReady, IsInStep, Tables, RemainsOf, IsDamage, IsFaultOfEither, comparisons};
+    ghost use Rattle.restrict_eval.specs.Same.{accounts, parts_of, answer_of, turns_left, task_of, IsReady, IsInStep};
+    ghost use Rattle.restrict_eval.specs.Same.{Tables, RemainsOf, IsDamage, IsFaultOfEither, comparisons};
     ghost use Rattle.restrict_eval.specs.Turns.{AnswersAtEnd, Turns};
 
     /// Begins the comparison of two node files of `n` variables. 176 records of the room are used.
@@ -175,7 +176,8 @@ impl<'r> SameSweep<'r> {
 
 impl<'r> Sweep<'r> for SameSweep<'r> {
     ghost use Rattle.restrict_eval.specs.SameResumes.{same_saving, Blames, stays, apart};
-    ghost use Rattle.restrict_eval.specs.Same.{accounts, turns_left, Compared, task_of, IsReady, IsInStep, Tables, RemainsOf, IsDamage};
+    ghost use Rattle.restrict_eval.specs.Same.{accounts, turns_left, Compared, task_of, IsReady, IsInStep, Tables};
+    ghost use Rattle.restrict_eval.specs.Same.{RemainsOf, IsDamage};
 
     ghost Job = { Tables };
 

@@ -10,7 +10,8 @@ ghost use Rattle.sweep_core.specs.Sweeps.{IsNoDamage};
 ghost use Rattle.node_reading.specs.Reading.{bytes_of, IsBegun, IsReading, IsNodeFault};
 ghost use Rattle.restrict_eval.specs.Canonical.{AreLeftBut};
 ghost use Rattle.restrict_eval.specs.Same.{fuel_at};
-ghost use Rattle.restrict_eval.specs.SameResumes.{Fits, Compares, KeepsRules, saved_of, behind_hand, at_hand, turns_of, GoesOnFrom};
+ghost use Rattle.restrict_eval.specs.SameResumes.{Fits, Compares, KeepsRules, saved_of, behind_hand, at_hand, turns_of};
+ghost use Rattle.restrict_eval.specs.SameResumes.{GoesOnFrom};
 ghost use Rattle.rec_words.specs.declared.node.Node.{Node};
 
 use crate::SameSweep;

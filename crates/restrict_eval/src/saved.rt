@@ -30,7 +30,8 @@ impl SavedSame {
 }
 
 impl Carried for SavedSame {
-    ghost use Rattle.restrict_eval.specs.SavedSame.{same_count, same_words, IsSaved, same_long, same_fits, same_differs};
+    ghost use Rattle.restrict_eval.specs.SavedSame.{same_count, same_words, IsSaved, same_long, same_fits};
+    ghost use Rattle.restrict_eval.specs.SavedSame.{same_differs};
 
     ghost count = { same_count };
 

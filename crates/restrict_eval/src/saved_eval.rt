@@ -53,7 +53,8 @@ impl SavedEval {
 }
 
 impl Carried for SavedEval {
-    ghost use Rattle.restrict_eval.specs.SavedEval.{eval_count, eval_words, IsSaved, eval_long, eval_fits, eval_differs};
+    ghost use Rattle.restrict_eval.specs.SavedEval.{eval_count, eval_words, IsSaved, eval_long, eval_fits};
+    ghost use Rattle.restrict_eval.specs.SavedEval.{eval_differs};
 
     ghost count = { eval_count };
 

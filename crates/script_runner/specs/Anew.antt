@@ -1,5 +1,6 @@
 -- What making a step does, leaves and costs, where a step that finds damage is run once more from its beginning.
-use Rattle.std.specs.Prelude.{◌≡◌, ◌⊎◌, ℕ, ◌+◌, ◌-◌, ◌/◌, ◌^◌, ◌<◌, ◌≤◌, Bool, false, IsTrue, List, [], Result, IfOk, IfErr}
+use Rattle.std.specs.Prelude.{◌≡◌, ◌⊎◌, ℕ, ◌+◌, ◌-◌, ◌/◌, ◌^◌, ◌<◌, ◌≤◌, Bool, false, IsTrue, List, [], Result, IfOk}
+use Rattle.std.specs.Prelude.{IfErr}
 use Rattle.bool_tables.specs.declared.steps.Step.{Step}
 use Rattle.bool_tables.specs.declared.steps.Planned.{Planned}
 use Rattle.bool_tables.specs.Plans.{makes_diagram}
@@ -83,7 +84,8 @@ pub record MakesStep {S : Type 0} (tells : S → Bool) (world : S → World) (co
       → Throughout (world before) (world after) (λ (m : Moment). AreResumable job number m.folder)
   pub sound : IfErr result (λ fault. IsTrue (tells after) → (job : Job) → IsStepOf job n text number p
       → Holds job number (now (world before)).folder → IsSoundFault p.step (work_of job p.step) fault)
-  pub damaged : IfErr result (λ fault. IsTrue (tells after) → IsFound n number p.step (world before) (world after) fault)
+  pub damaged : IfErr result (λ fault. IsTrue (tells after)
+      → IsFound n number p.step (world before) (world after) fault)
   pub kind : IfErr result (IsOfKind p.step)
   pub few_parts : IfOk result (λ e. IsTrue (tells after) → (spare : ℕ)
       → SparesParts number (reads_of (world before)) spare → e.parts ≤ 5 + e.turns / 16 + spare)

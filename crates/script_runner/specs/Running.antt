@@ -253,7 +253,8 @@ pub record RunsSteps (job : Job) (lines : List LineEnd) (finish : Finish) (old n
       → AreEmptied job.steps (count_in (present (now old).folder) - 1) (length job.steps) (now new).folder
   -- and where that folder was lean it is lean
   pub lean : AreSound job (now old).folder → finish ≡ Done
-      → IsLean job (count_in (present (now old).folder)) (now old).folder → IsLean job (length job.steps) (now new).folder
+      → IsLean job (count_in (present (now old).folder)) (now old).folder
+      → IsLean job (length job.steps) (now new).folder
   -- another job is refused exactly where one is stored, unless a call of the folder failed, and
   -- then nothing was done
   pub other_job : (at : ℕ) → finish ≡ OtherJob at

@@ -52,10 +52,11 @@ pub record TidyCosts (steps : List Planned) (done : ℕ) (old new : World) : Typ
 -- step that swept what one leaves behind that went on from its last gated checkpoint
 pub record IsEmptiedBy (steps : List Planned) (done : ℕ) (e : Entry) (old new : Folder) : Type 0 where
   pub dropped : (gone : ℕ) → last_step steps done ≡ Drop gone → (file_in new (node_file gone)).bytes ≡ []
-  pub swept : IsTrue (sweeps (last_step steps done)) → (last : Option Checkpoint) → IsLastPoint (done - 1) (present old) last
+  pub swept : IsTrue (sweeps (last_step steps done))
+      → (last : Option Checkpoint) → IsLastPoint (done - 1) (present old) last
       → (f : FileNo) → IsLeftBehind (done - 1) (tidied_to e) last f → (file_in new f).bytes ≡ []
 
 -- so it is where such an entry stands whole at its place
 abbrev pub EmptiesLast : List Planned → ℕ → Folder → Folder → Type 0
-EmptiesLast steps done old new = 0 < done → (e : Entry) → IsEntryOf (done - 1) (present old) e → e.kind ≡ kind_of (last_step steps done)
-    → IsEmptiedBy steps done e old new
+EmptiesLast steps done old new = 0 < done → (e : Entry) → IsEntryOf (done - 1) (present old) e
+    → e.kind ≡ kind_of (last_step steps done) → IsEmptiedBy steps done e old new

@@ -1,5 +1,6 @@
 -- A step that makes its diagram by sweeps, begun or gone on with: its arcs, and their reduction.
-use Rattle.std.specs.Prelude.{◌≡◌, ◌≢◌, ◌⊎◌, ℕ, ◌+◌, ◌-◌, ◌*◌, ◌^◌, ◌<◌, ◌≤◌, max, Bool, IsTrue, List, Option, Some, None, length}
+use Rattle.std.specs.Prelude.{◌≡◌, ◌≢◌, ◌⊎◌, ℕ, ◌+◌, ◌-◌, ◌*◌, ◌^◌, ◌<◌, ◌≤◌, max, Bool, IsTrue, List, Option, Some}
+use Rattle.std.specs.Prelude.{None, length}
 use Rattle.std.specs.Prelude.{Result, IfOk, IfErr, IsErrOf, OnOk}
 use Rattle.shelf_model.specs.declared.file_no.FileNo.{FileNo}
 use Rattle.shelf_model.specs.declared.sort_fault.SortFault.{SortFault}
@@ -198,7 +199,8 @@ pub record HasArcsOf (making : Making) (g : Tables) (m : MadeArcs) (world : Worl
   pub last : Option Checkpoint
   pub standing : IsStanding (goes_on_by making g) diagram_rests making.number m.parts.next
       (now world).folder last
-  pub apart : (c : Checkpoint) → last ≡ Some c → (f : FileNo) (n : ℕ) → diagram_rests c f n → f ≢ node_file making.number
+  pub apart : (c : Checkpoint) → last ≡ Some c → (f : FileNo) (n : ℕ)
+      → diagram_rests c f n → f ≢ node_file making.number
 
 -- so they were made: the most turns of the step leave ten for each source, and nine
 pub record AreArcsOf (making : Making) (old new : Going) (g : Tables) (m : MadeArcs) (world : World) : Type 0 where
@@ -211,7 +213,8 @@ pub record AreArcsOf (making : Making) (old new : Going) (g : Tables) (m : MadeA
 -- each tuple, and nine, of the most that the step may take
 pub record TakesFew (making : Making) (going : Going) (g : Tables) : Type 0 where
   pub left : ℕ
-  pub few : going.turns + left + (10 * tuples_by making.operation making.n g + 10) ≤ most_turns going.last making going g
+  pub few : going.turns + left + (10 * tuples_by making.operation making.n g + 10)
+      ≤ most_turns going.last making going g
   pub takes : Takes (left + 1) left (owed_parts going.last)
 
 -- a step's arcs are made, or that is refused by one who misses nodes of the operands in that way
@@ -246,7 +249,8 @@ pub record ComesToArcs (Misses : List ℕ → ℕ → Type 0) {S : Type 0} (tell
   pub recent : OnOk result (new.turns < 2 ^ 61 → new.turns - new.shown ≤ interval_of old.budget)
   -- what it cost, and how many parts a save may have to cut from then on
   pub calls : IfOk result (λ m. new.turns < 2 ^ 64 - 1 → (old.shown ≤ new.shown)
-      × (t : Takes (new.turns - old.turns) (new.shown - old.shown) (owed_parts old.last)) × (m.parts.next ≤ first_owed new.last m.parts.next + t.parts)
+      × (t : Takes (new.turns - old.turns) (new.shown - old.shown) (owed_parts old.last))
+      × (m.parts.next ≤ first_owed new.last m.parts.next + t.parts)
       × (IsTrue (tells after) → (world after).clock + 2 * owed_parts old.last ≤ (world before).clock
       + (calls_of t + 8 + rest_calls old.last (operand_nodes making (reads_of (world before))))))
   pub few_calls : IsTrue (tells after) → (g : Tables) → IsGivenFor making old (world before) g
@@ -282,9 +286,11 @@ pub record AreReducible (making : Making) (going : Going) (g : Tables) (each : �
 -- a step's arcs are reduced to its node file, behind the turns that made them, with so many more for each source; a
 -- stop costs so many calls at most beyond those for turns that it leaves shown
 pub record Reduces {S : Type 0} (tells : S → Bool) (world : S → World) (counts : S → Faults) (making : Making)
-    (arcs : MadeArcs) (going : Going) (each stop : ℕ) (before after : S) (result : Result MadeDiagram SortFault) : Type 0
+    (arcs : MadeArcs) (going : Going) (each stop : ℕ) (before after : S)
+    (result : Result MadeDiagram SortFault) : Type 0
   where
-    pub made : IfOk result (λ m. IsTrue (tells after) → (g : Tables) → (are : AreReducible making going g each arcs (world before))
+    pub made : IfOk result (λ m. IsTrue (tells after) → (g : Tables)
+        → (are : AreReducible making going g each arcs (world before))
         → IsMade making.n (table_by making g) (node_file making.number) m.nodes (world after)
         × (m.turns ≤ going.turns + (each * are.has.sources + 9)))
     pub spent : IsErrOf result RunsSpent → IsTrue (tells after) → (g : Tables)
@@ -307,7 +313,8 @@ pub record Reduces {S : Type 0} (tells : S → Bool) (world : S → World) (coun
         × (IsTrue (tells after) → (world after).clock ≤ (world before).clock
         + (calls_of t + 3 + (arcs.parts.next - first_owed going.last arcs.parts.next))))
     pub few_calls : IsTrue (tells after) → (g : Tables) → (are : AreReducible making going g each arcs (world before))
-        → (t : Takes (each * are.has.sources + 9) (max going.shown (going.turns + (each * are.has.sources + 8)) - going.shown) 0)
+        → (t : Takes (each * are.has.sources + 9)
+        (max going.shown (going.turns + (each * are.has.sources + 8)) - going.shown) 0)
         × ((world after).clock ≤ (world before).clock
         + (calls_of t + 3 + (arcs.parts.next - first_owed going.last arcs.parts.next)))
     -- what a stop costs at any moment, where the last checkpoint shows no more than is said

@@ -52,14 +52,15 @@ pub record MakesSoon {O : Type 0} (rule : O → Rule) (begins : O → Tuple → 
 -- calls were made, also where it is refused; of canonical files the operation's table is still to be made, and none of
 -- them is damaged
 pub record StartsTable {S O : Type 0} (rule : O → Rule) (begins : O → Tuple → Tuple) (tells : S → Bool)
-    (world : S → World) (counts : S → Faults) (operation : StepOperation) (n : ℕ) (operands : OperandFiles) (parts : Parts) (before after : S)
-    (result : Result (TableSweep O) SortFault) : Type 0 where
+    (world : S → World) (counts : S → Faults) (operation : StepOperation) (n : ℕ) (operands : OperandFiles)
+    (parts : Parts) (before after : S) (result : Result (TableSweep O) SortFault) : Type 0 where
   pub begun : IfOk result (λ s. Begun rule begins tells world (files_from operands parts) (after_two parts) before after
       (sweep_of s))
   pub variables : IfOk result (λ s. variables_of (sweep_of s) ≡ n)
   pub leaves : Starts tells world counts n (files_from operands parts) parts before after result
   pub few_calls : IsTrue (tells after) → (world after).clock ≤ (world before).clock + 8
   pub remains : IfOk result (λ s. IsTrue (tells after) → (g : Tables)
-      → AreGivenTo parts.step operation n operands (world before) g → MakesSoon rule begins operation n g s (world after))
+      → AreGivenTo parts.step operation n operands (world before) g
+      → MakesSoon rule begins operation n g s (world after))
   pub undamaged : IfErr result (λ e. IsTrue (tells after) → (g : Tables)
       → AreGivenTo parts.step operation n operands (world before) g → IsNoDamage e)

@@ -24,7 +24,8 @@ impl<'r> TableSweep<'r, Product> {
     ) -> Result<TableSweep<'r, Product>, SortFault>
         requires room { 16384 ≤ length room.old }
         requires past_made { 3 ≤ parts.next }
-        ensures starts { StartsTable ⟦<Product as Operation>⟧.rule ⟦<Product as Operation>⟧.begins S.tells S.world S.faults (steps.Operator op) n
+        ensures starts { StartsTable ⟦<Product as Operation>⟧.rule ⟦<Product as Operation>⟧.begins
+            S.tells S.world S.faults (steps.Operator op) n
             (operand_files f g g) parts shelf.old shelf.new result }
     {
         let operands = OperandFiles {
@@ -50,7 +51,8 @@ impl<'r> TableSweep<'r, Choice> {
     ) -> Result<TableSweep<'r, Choice>, SortFault>
         requires room { 16384 ≤ length room.old }
         requires past_made { 3 ≤ parts.next }
-        ensures starts { StartsTable ⟦<Choice as Operation>⟧.rule ⟦<Choice as Operation>⟧.begins S.tells S.world S.faults steps.Choice n
+        ensures starts { StartsTable ⟦<Choice as Operation>⟧.rule ⟦<Choice as Operation>⟧.begins
+            S.tells S.world S.faults steps.Choice n
             (operand_files c f g) parts shelf.old shelf.new result }
     {
         let operands = OperandFiles {
@@ -77,7 +79,8 @@ impl<'r> TableSweep<'r, Quantified> {
         requires room { 16384 ≤ length room.old }
         requires within { level < n }
         requires past_made { 3 ≤ parts.next }
-        ensures starts { StartsTable ⟦<Quantified as Operation>⟧.rule ⟦<Quantified as Operation>⟧.begins S.tells S.world S.faults
+        ensures starts { StartsTable ⟦<Quantified as Operation>⟧.rule ⟦<Quantified as Operation>⟧.begins
+            S.tells S.world S.faults
             (steps.Quantifier kind level) n (operand_files f f f) parts shelf.old shelf.new result }
     {
         let operands = OperandFiles {
@@ -108,7 +111,8 @@ impl<'r> TableSweep<'r, Restricted> {
         requires room { 16384 ≤ length room.old }
         requires within { level < n }
         requires past_made { 3 ≤ parts.next }
-        ensures starts { StartsTable ⟦<Restricted as Operation>⟧.rule ⟦<Restricted as Operation>⟧.begins S.tells S.world S.faults
+        ensures starts { StartsTable ⟦<Restricted as Operation>⟧.rule ⟦<Restricted as Operation>⟧.begins
+            S.tells S.world S.faults
             (steps.Restriction level value) n (operand_files f f f) parts shelf.old shelf.new result }
     {
         let operands = OperandFiles {
