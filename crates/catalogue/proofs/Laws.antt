@@ -11,9 +11,10 @@ use Rattle.shelf_model.proofs.Files.{kept_left}
 use Rattle.shelf_model.proofs.Images.{chosen, bytes_in-chosen, standing_left, standing_image, shortest_left, each_left, length_is_all}
 use Rattle.catalogue.specs.Files.{job_gate, catalogue, step_gate}
 use Rattle.catalogue.specs.Counts.{count_in, present, is_stored, entry_at, HasCount}
-use Rattle.catalogue.specs.Commits.{IsReady}
+use Rattle.catalogue.specs.declared.layout.Entry.{Entry}
+use Rattle.catalogue.specs.Commits.{IsReady, DuringPut, IsCountedWithin, AreCommitted}
 use Rattle.catalogue.specs.Standings.{DuringAttach}
-use Rattle.catalogue.proofs.Counted.{has_count}
+use Rattle.catalogue.proofs.Counted.{has_count, same_entries}
 
 -- a folder that has n committed steps in every image, and room for their entries, is ready for the next
 pub ready_from_images : (n : ℕ) (folder : Folder) → AreFiles folder → ((image : Image) → IsImage folder image → HasCount n (bytes_in image)) → 128 * n ≤ length (file_in folder catalogue).bytes → IsReady n folder
@@ -68,3 +69,16 @@ ready_count n folder is_file ready =
     let within : (file_in folder job_gate).firm ≤ length (file_in folder job_gate).bytes = is_file.firm_within in
     let sure : 0 < (file_in folder job_gate).firm = ready.stored in
     (has_count n (present folder) (omega arith) ready.count).count
+
+-- a put leaves the entries before its own as they are read
+pub entry_stays : (committed k : ℕ) (e : Entry) (old m : Moment) → k < e.number → DuringPut committed e old m → entry_at k (present m.folder) ≡ entry_at k (present old.folder)
+entry_stays committed k e old m before during = same_entries k e.number (file_in m.folder catalogue).bytes (file_in old.folder catalogue).bytes before during.reads
+
+-- where an image counts a step that waited, each entry that it counts is the one that was read before
+pub counted_entry : (committed waiting k : ℕ) (entries : List ℕ) (r : FileNo → List ℕ) (counted : IsCountedWithin committed waiting entries r) → committed < counted.count → k < counted.count
+    → entry_at k r ≡ take 128 (drop (128 * k) entries)
+counted_entry committed waiting k entries r counted more below = same_entries k counted.count (r catalogue) entries below (counted.placed more)
+
+-- and so it is of all of them once they are committed
+pub committed_entry : (committed waiting k : ℕ) (old new : Folder) (image : Image) → AreCommitted committed waiting old new → IsImage new image → entry_at k (bytes_in image) ≡ entry_at k (present old)
+committed_entry committed waiting k old new image are is_image = ap (λ bytes. take 128 (drop (128 * k) bytes)) (are.images image is_image).1

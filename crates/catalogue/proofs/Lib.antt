@@ -1,5 +1,7 @@
 pub mod Fields
 pub mod Counted
+pub mod Waiting
+pub mod Committed
 pub mod Places
 pub mod Budget
 mod Shared
@@ -7,4 +9,4 @@ pub mod Stored
 pub mod Synced
 mod Resumed
 mod Looked
-mod Laws
+pub mod Laws

@@ -19,4 +19,4 @@ pub use job::attach;
 pub use layout::{ENTRY_SIZE, Entry};
 pub use looking::{MOST_STEPS, look};
 pub use standing::Standing;
-pub use steps::{commit, entry};
+pub use steps::{MOST_WAITING, commit, commit_waiting, entry, put_entry};

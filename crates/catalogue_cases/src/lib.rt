@@ -7,3 +7,5 @@ mod lists;
 mod looks;
 #[cfg(test)]
 mod tests;
+#[cfg(test)]
+mod together;

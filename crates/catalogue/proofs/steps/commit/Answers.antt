@@ -1,13 +1,11 @@
-use Rattle.shelf_model.proofs.Runs.{told}
-use Rattle.catalogue.proofs.Counted.{placed_so_far, commits, commit_ok}
+use Rattle.catalogue.proofs.Committed.{commit_put, commit_counted, commit_ok}
 use Rattle.catalogue.proofs.steps.commit.Goals as goal
 
+pub returns-in_err-put_entry-clause-content : goal.returns-in_err-put_entry-clause-content
+returns-in_err-put_entry-clause-content g c = commit_put g.S.Shelf.tells g.S.Shelf.world c.args.entry.now _ _ c.in_err-put_entry.ensures.content
+
 pub returns-clause-content : goal.returns-clause-content
-returns-clause-content g c =
-    let placed = placed_so_far g.S.Shelf.tells g.S.Shelf.world c.args.entry.now c.to_bytes.result _ _ c.to_bytes.ensures.bytes c.to_bytes.ensures.len c.requires.ready c.in_ok-replace_from.ensures.content c.in_ok-replace_from.ensures.ok in
-    told g.S.Shelf.tells _ _ _ _ (commits g.S.Shelf.tells g.S.Shelf.world c.args.entry.now _ _ _ c.requires.ready placed c.lengthen.ensures.content) (λ _ both. both.0)
+returns-clause-content g c = commit_counted g.S.Shelf.tells g.S.Shelf.world c.args.entry.now _ _ _ c.requires.ready c.in_ok-put_entry.ensures.content c.in_ok-put_entry.ensures.ok c.commit_waiting.ensures.content
 
 pub returns-clause-ok : goal.returns-clause-ok
-returns-clause-ok g c =
-    let placed = placed_so_far g.S.Shelf.tells g.S.Shelf.world c.args.entry.now c.to_bytes.result _ _ c.to_bytes.ensures.bytes c.to_bytes.ensures.len c.requires.ready c.in_ok-replace_from.ensures.content c.in_ok-replace_from.ensures.ok in
-    commit_ok g.S.Shelf.tells g.S.Shelf.world c.args.entry.now _ _ _ _ c.requires.ready placed c.lengthen.ensures.content c.lengthen.ensures.ok
+returns-clause-ok g c = commit_ok g.S.Shelf.tells g.S.Shelf.world c.args.entry.now _ _ _ _ c.requires.ready c.in_ok-put_entry.ensures.content c.in_ok-put_entry.ensures.ok c.commit_waiting.ensures.content c.commit_waiting.ensures.ok
