@@ -4,22 +4,23 @@ use Rattle.std.specs.Prelude.{IsTrue}
 use Rattle.std.proofs.lemmas.List.{take-take, length-take, length-take-le, length-drop, drop-take}
 use Rattle.bool_tables.specs.Plans.{is_live}
 use Rattle.shelf_model.specs.declared.file_no.FileNo.{FileNo}
-use Rattle.shelf_model.specs.File.{File, firm_file, IsLeft}
+use Rattle.shelf_model.specs.File.{File, firm_file, IsLeft, IsKept}
 use Rattle.shelf_model.specs.Folder.{Folder, Image, file_in, bytes_in, IsImage, AreFiles}
 use Rattle.shelf_model.proofs.Files.{only_image, same_image, kept_left}
 use Rattle.shelf_model.proofs.Images.{chosen, each_left, shortest_left, standing_left, standing_image}
 use Rattle.catalogue.specs.declared.layout.Entry.{Entry}
 use Rattle.catalogue.specs.Files.{job_file, catalogue}
-use Rattle.catalogue.specs.Counts.{HasCount}
+use Rattle.catalogue.specs.Counts.{entry_at, HasCount}
 use Rattle.catalogue.specs.Commits.{IsReady}
 use Rattle.catalogue.specs.Entries.{entry_bytes}
 use Rattle.catalogue.specs.Standings.{without_budget}
 use Rattle.catalogue.proofs.Counted.{ready_counts}
 use Rattle.catalogue.proofs.Places.{length_entry}
 use Rattle.sound_image.specs.Files.{node_file}
-use Rattle.sound_image.specs.Jobs.{Job, file_of}
+use Rattle.canon_file.specs.Laws.{HasForm}
+use Rattle.sound_image.specs.Jobs.{Job, table_at, file_of}
 use Rattle.sound_image.specs.Entries.{IsEntryOfStep}
-use Rattle.sound_image.specs.Sound.{ShowsSteps, IsResumableAt}
+use Rattle.sound_image.specs.Sound.{ShowsSteps, IsSound, IsResumableAt}
 use Rattle.sound_image.proofs.Resuming.{all_sure}
 use Rattle.sound_image.specs.Holds.{KeepsEntries, Holds, AreSound, HaveCount}
 
@@ -41,32 +42,42 @@ sure_image folder image f x is sure is_image =
 pub holds_count : (job : Job) (count : ℕ) (folder : Folder) → Holds job count folder → HaveCount count folder
 holds_count job count folder holds image is_image = (ready_counts count folder image holds.ready is_image).count
 
--- and is sound
+-- an image with so many steps is sound, where it has their entries, their diagrams are sure, and a run can go on
+pub sound_with : (job : Job) (count : ℕ) (folder : Folder) (image : Image) → IsImage folder image → file_in folder job_file ≡ firm_file (file_in folder job_file).bytes
+    → without_budget (file_in folder job_file).bytes ≡ job.bytes → HasCount count (bytes_in image) → count ≤ length job.steps → IsResumableAt job count (bytes_in image)
+    → ((k : ℕ) → k < count → (e : Entry) × IsEntryOfStep job k e × (entry_at k (bytes_in image) ≡ entry_bytes e))
+    → ((s : ℕ) → IsTrue (is_live (take count job.steps) s) → (file_in folder (node_file s) ≡ firm_file (file_of job s)) × HasForm job.n (table_at job s))
+    → IsSound job (bytes_in image)
+sound_with job count folder image is_image job_sure job_is counted few resumes entries diagrams = record {
+  shown = inr (record {
+    stored = counted.stored;
+    job_is = ap without_budget (sure_image folder image job_file (file_in folder job_file) refl job_sure is_image) ∙ job_is;
+    few = subst (λ c. c ≤ length job.steps) (sym counted.count) few;
+    entries = λ k within. entries k (subst (λ c. k < c) counted.count within);
+    files = λ s live. only_image (file_of job s) (bytes_in image (node_file s))
+        (same_image folder image (node_file s) (firm_file (file_of job s)) (diagrams s (subst (λ c. IsTrue (is_live (take c job.steps) s)) counted.count live)).0 is_image);
+    forms = λ s live. (diagrams s (subst (λ c. IsTrue (is_live (take c job.steps) s)) counted.count live)).1;
+  });
+  resumable = record {
+    unstored = λ none. absurd (let stored = counted.stored in cc);
+    goes_on = subst (λ c. IsResumableAt job c (bytes_in image)) (sym counted.count) resumes;
+  };
+}
+
+-- an image of a folder that keeps the entries of so many steps has each of them
+pub kept_entries : (job : Job) (count k : ℕ) (old m : Folder) (image : Image) (keeps : KeepsEntries job count old) → IsKept keeps.front (file_in m catalogue) → IsImage m image → k < count
+    → (e : Entry) × IsEntryOfStep job k e × (entry_at k (bytes_in image) ≡ entry_bytes e)
+kept_entries job count k old m image keeps kept is_image within =
+    let found : (e : Entry) × IsEntryOfStep job k e × (take 128 (drop (128 * k) keeps.front) ≡ entry_bytes e) = keeps.each k within in
+    let begins : take (length keeps.front) (bytes_in image catalogue) ≡ keeps.front = kept_left keeps.front (file_in m catalogue) (bytes_in image catalogue) kept (is_image catalogue) in
+    (found.0, found.1, entry_in_front k count keeps.front (bytes_in image catalogue) keeps.size within begins ∙ found.2)
+
+-- and each image is sound
 pub holds_sound : (job : Job) (count : ℕ) (folder : Folder) → Holds job count folder → AreSound job folder
 holds_sound job count folder holds image is_image =
-    let r : FileNo → List ℕ = bytes_in image in
-    let counted : HasCount count r = ready_counts count folder image holds.ready is_image in
-    record {
-      shown = inr (record {
-        stored = counted.stored;
-        job_is = ap without_budget (sure_image folder image job_file (file_in folder job_file) refl holds.job_sure is_image) ∙ holds.job_is;
-        few = subst (λ c. c ≤ length job.steps) (sym counted.count) holds.few;
-        entries = λ k within.
-            let below : k < count = subst (λ c. k < c) counted.count within in
-            let found : (e : Entry) × IsEntryOfStep job k e × (take 128 (drop (128 * k) holds.entries.front) ≡ entry_bytes e) = holds.entries.each k below in
-            let begins : take (length holds.entries.front) (r catalogue) ≡ holds.entries.front =
-            kept_left holds.entries.front (file_in folder catalogue) (r catalogue) holds.entries.kept (is_image catalogue) in
-            (found.0, found.1, entry_in_front k count holds.entries.front (r catalogue) holds.entries.size below begins ∙ found.2);
-        files = λ s live.
-            let lives : IsTrue (is_live (take count job.steps) s) = subst (λ c. IsTrue (is_live (take c job.steps) s)) counted.count live in
-            only_image (file_of job s) (r (node_file s)) (same_image folder image (node_file s) (firm_file (file_of job s)) (holds.files s lives) is_image);
-        forms = λ s live. holds.forms s (subst (λ c. IsTrue (is_live (take c job.steps) s)) counted.count live);
-      });
-      resumable = record {
-        unstored = λ none. absurd (let stored = counted.stored in cc);
-        goes_on = subst (λ c. IsResumableAt job c r) (sym counted.count) (holds.resumable image is_image);
-      };
-    }
+    sound_with job count folder image is_image holds.job_sure holds.job_is (ready_counts count folder image holds.ready is_image) holds.few (holds.resumable image is_image)
+    (λ k within. kept_entries job count k folder folder image holds.entries holds.entries.kept is_image within)
+    (λ s live. (holds.files s live, holds.forms s live))
 
 -- the other way: where each image is sound and has one count, and the job is attached, the folder holds so many steps
 module _ (job : Job) (count : ℕ) (folder : Folder) (files : AreFiles folder) (ready : IsReady count folder) (sound : AreSound job folder) where

@@ -5,3 +5,4 @@ pub mod Live
 pub mod StepLaws
 pub mod AttachLaws
 pub mod EntryLaws
+pub mod Waiting

@@ -1,8 +1,8 @@
 -- Which diagrams are live after a number of steps.
-use Rattle.std.proofs.Common.{◌≡◌, ◌∙◌, ℕ, zero, suc, ◌+◌, ◌<◌, Bool, true, false, not, ◌||◌, List, [], ◌∷◌, ◌++◌, length, take, get_or, refl, sym, ap, subst, arith}
+use Rattle.std.proofs.Common.{◌≡◌, ◌∙◌, ℕ, zero, suc, ◌+◌, ◌<◌, ◌≤◌, Bool, true, false, not, ◌||◌, List, [], ◌∷◌, ◌++◌, length, take, get_or, refl, sym, ap, subst, inl, inr, arith}
 use Rattle.std.specs.Prelude.{IsTrue}
 use Rattle.std.specs.List.{list_any}
-use Rattle.std.proofs.lemmas.Bool.{and_parts, and_from}
+use Rattle.std.proofs.lemmas.Bool.{and_parts, and_from, cases_lt}
 use Rattle.std.proofs.lemmas.List.{take_more, length-take}
 use Rattle.bool_tables.specs.declared.steps.Planned.{Planned}
 use Rattle.bool_tables.specs.Plans.{is_live, is_diagram, drops, makes_diagram}
@@ -50,6 +50,17 @@ live_earlier steps k s d within below h =
     (and_parts (is_diagram (take k steps ++ get_or steps k d ∷ []) s) (not (list_any test (take k steps ++ get_or steps k d ∷ []))) live).0)
     (undropped_before test (take k steps) (get_or steps k d ∷ [])
     (and_parts (is_diagram (take k steps ++ get_or steps k d ∷ []) s) (not (list_any test (take k steps ++ get_or steps k d ∷ []))) live).1)
+
+-- so it was live behind fewer steps, where it is one of them
+pub live_sooner : (steps : List Planned) (k c s : ℕ) (d : Planned) → k ≤ c → c ≤ length steps → s < k → IsTrue (is_live (take c steps) s) → IsTrue (is_live (take k steps) s)
+live_sooner steps k zero s d fewer few below live = absurd (omega (arith, fewer, below))
+live_sooner steps k (suc c) s d fewer few below live = elim (cases_lt c k) [
+  | inl all ↦ let same : suc c ≡ k = omega (arith, all, fewer) in subst (λ j. IsTrue (is_live (take j steps) s)) same live
+  | inr more ↦
+      let last : c < length steps = omega (arith, few) in
+      let next : suc c ≡ c + 1 = omega arith in
+      live_sooner steps k c s d more (omega (arith, few)) below (live_earlier steps c s d last (omega (arith, below, more)) (subst (λ j. IsTrue (is_live (take j steps) s)) next live))
+]
 
 -- and the last one is live only where it makes a diagram
 pub live_last : (steps : List Planned) (k : ℕ) (d : Planned) → k < length steps → IsTrue (is_live (take (k + 1) steps) k) → IsTrue (makes_diagram (get_or steps k d).step)

@@ -8,10 +8,9 @@ use Rattle.shelf_model.specs.declared.file_no.FileNo.{FileNo}
 use Rattle.shelf_model.specs.File.{File, firm_file, IsKept}
 use Rattle.shelf_model.specs.Folder.{Folder, Image, file_in, bytes_in, IsImage, AreFiles}
 use Rattle.shelf_model.specs.World.{Moment}
-use Rattle.shelf_model.proofs.Files.{only_image, same_image, kept_left}
 use Rattle.catalogue.specs.declared.layout.Entry.{Entry}
 use Rattle.catalogue.specs.Files.{job_step, job_file, job_gate, catalogue, step_gate}
-use Rattle.catalogue.specs.Counts.{is_stored, count_in, entry_at}
+use Rattle.catalogue.specs.Counts.{is_stored, count_in, entry_at, HasCount}
 use Rattle.catalogue.specs.Commits.{IsReady, DuringCommit, IsCommitted}
 use Rattle.catalogue.specs.Entries.{entry_bytes}
 use Rattle.catalogue.specs.Standings.{without_budget}
@@ -26,7 +25,7 @@ use Rattle.sound_image.specs.Sound.{IsSound, IsResumableAt}
 use Rattle.sound_image.specs.Holds.{Holds, IsMade, AreResumable, NoneGated}
 use Rattle.sound_image.specs.Steps.{IsOwnFile, OnlyOwnFiles, IsCutBy, IsTidied}
 use Rattle.sound_image.proofs.Numbers.{IsOfStep, node_of_step, gate_of_step, not_catalogue, not_step_gate}
-use Rattle.sound_image.proofs.HoldsLaws.{entry_in_front, sure_image}
+use Rattle.sound_image.proofs.HoldsLaws.{entry_in_front, sound_with, kept_entries}
 use Rattle.sound_image.proofs.Resuming.{AreFew, RestsOnSteps, early, none_resumes, none_next, none_gated_resumes, none_behind, resumable_kept}
 use Rattle.sound_image.proofs.Live.{live_below, live_earlier, live_last, live_undropped}
 
@@ -144,17 +143,14 @@ pub sound_while_committed : (job : Job) (k : ℕ) (e : Entry) (old m : Moment) (
 sound_while_committed job k e old m image files few rests within holds made is_entry during is_image =
     elim (during.images image is_image) [
       | inl before ↦
-          let count : count_in r ≡ k = before.count ∙ is_entry.number_is in (
-            sound_with k before.stored count holds.few resumable
-                (λ i inside. earlier i inside)
-                (λ s live. others_same (node_file s) (node_of_step s (early job s few (below_all s k holds.few live))) (holds.files s live))
-                holds.forms,
-            subst (λ c. k ≤ c) (sym count) (omega arith),
+          let counted : HasCount k r = subst (λ c. HasCount c r) is_entry.number_is before in (
+            sound k counted holds.few resumable earlier (λ s live. (holds.files s live, holds.forms s live)),
+            subst (λ c. k ≤ c) (sym counted.count) (omega arith),
             before.stored,
           )
       | inr after ↦
-          let count : count_in r ≡ k + 1 = after.counts.count ∙ ap (λ c. c + 1) is_entry.number_is in (
-            sound_with (k + 1) after.counts.stored count (omega (arith, within)) (none_resumes job (k + 1) r (none_next job k r resumable))
+          let counted : HasCount (k + 1) r = subst (λ c. HasCount (c + 1) r) is_entry.number_is after.counts in (
+            sound (k + 1) counted (omega (arith, within)) (none_resumes job (k + 1) r (none_next job k r resumable))
                 (λ i inside. elim (cases_lt i k) [
                   | inl below ↦ earlier i below
                   | inr beyond ↦
@@ -162,9 +158,8 @@ sound_while_committed job k e old m image files few rests within holds made is_e
                       subst (λ j. (x : Entry) × IsEntryOfStep job j x × (entry_at j r ≡ entry_bytes x)) (sym same)
                       (e, is_entry, ap (λ j. entry_at j r) (sym is_entry.number_is) ∙ after.placed)
                 ])
-                (λ s live. others_same (node_file s) (node_of_step s (early job s few (below_all s (k + 1) (omega (arith, within)) live))) (live_file job k s old.folder within holds made live))
-                (λ s live. live_form job k s old.folder within holds made live),
-            subst (λ c. k ≤ c) (sym count) (omega arith),
+                (λ s live. (live_file job k s old.folder within holds made live, live_form job k s old.folder within holds made live)),
+            subst (λ c. k ≤ c) (sym counted.count) (omega arith),
             after.counts.stored,
           )
     ]
@@ -175,41 +170,25 @@ sound_while_committed job k e old m image files few rests within holds made is_e
     resumable : IsResumableAt job k r
     resumable = resumable_committed job k e old m files few rests holds during image is_image
 
-    others_same : (f : FileNo) → IsOfStep f → {bytes : List ℕ} → file_in old.folder f ≡ firm_file bytes → file_in m.folder f ≡ firm_file bytes
-    others_same f of_step same = during.others f (not_catalogue f of_step) (not_step_gate f of_step) ∙ same
-
-    below_all : (s c : ℕ) → c ≤ length job.steps → IsTrue (is_live (take c job.steps) s) → s < length job.steps
-    below_all s c short live = let below : s < c = live_below job.steps c s live in omega (arith, below, short)
-
     earlier : (i : ℕ) → i < k → (x : Entry) × IsEntryOfStep job i x × (entry_at i r ≡ entry_bytes x)
     earlier i inside =
-        let found : (x : Entry) × IsEntryOfStep job i x × (take 128 (drop (128 * i) holds.entries.front) ≡ entry_bytes x) = holds.entries.each i inside in
         let short : length holds.entries.front ≤ 128 * e.number = omega (arith, holds.entries.size, is_entry.number_is) in
-        let begins : take (length holds.entries.front) (r catalogue) ≡ holds.entries.front =
-        kept_left holds.entries.front (file_in m.folder catalogue) (r catalogue) (during.kept holds.entries.front short holds.entries.kept) (is_image catalogue) in
-        (found.0, found.1, entry_in_front i k holds.entries.front (r catalogue) holds.entries.size inside begins ∙ found.2)
+        kept_entries job k i old.folder m.folder image holds.entries (during.kept holds.entries.front short holds.entries.kept) is_image inside
 
-    sound_with : (c : ℕ) → IsTrue (is_stored r) → count_in r ≡ c → c ≤ length job.steps → IsResumableAt job c r
+    job_same : file_in m.folder job_file ≡ file_in old.folder job_file
+    job_same = during.others job_file (λ q. catalogue_not_job_file (sym q)) (λ q. step_gate_not_job_file (sym q))
+
+    sound : (c : ℕ) → HasCount c r → c ≤ length job.steps → IsResumableAt job c r
         → ((i : ℕ) → i < c → (x : Entry) × IsEntryOfStep job i x × (entry_at i r ≡ entry_bytes x))
-        → ((s : ℕ) → IsTrue (is_live (take c job.steps) s) → file_in m.folder (node_file s) ≡ firm_file (file_of job s))
-        → ((s : ℕ) → IsTrue (is_live (take c job.steps) s) → HasForm job.n (table_at job s))
+        → ((s : ℕ) → IsTrue (is_live (take c job.steps) s) → (file_in old.folder (node_file s) ≡ firm_file (file_of job s)) × HasForm job.n (table_at job s))
         → IsSound job r
-    sound_with c stored count short resumes entries nodes forms = record {
-      shown = inr (record {
-        stored = stored;
-        job_is = ap without_budget (sure_image m.folder image job_file (file_in old.folder job_file)
-            (during.others job_file (λ q. catalogue_not_job_file (sym q)) (λ q. step_gate_not_job_file (sym q))) holds.job_sure is_image) ∙ holds.job_is;
-        few = subst (λ n. n ≤ length job.steps) (sym count) short;
-        entries = λ i inside. entries i (subst (λ n. i < n) count inside);
-        files = λ s live. only_image (file_of job s) (r (node_file s)) (same_image m.folder image (node_file s) (firm_file (file_of job s))
-            (nodes s (subst (λ n. IsTrue (is_live (take n job.steps) s)) count live)) is_image);
-        forms = λ s live. forms s (subst (λ n. IsTrue (is_live (take n job.steps) s)) count live);
-      });
-      resumable = record {
-        unstored = λ none. absurd (cc);
-        goes_on = subst (λ n. IsResumableAt job n r) (sym count) resumes;
-      };
-    }
+    sound c counted short resumes entries diagrams =
+        sound_with job c m.folder image is_image (subst (λ (x : File). x ≡ firm_file x.bytes) (sym job_same) holds.job_sure)
+        (ap (λ (x : File). without_budget x.bytes) job_same ∙ holds.job_is) counted short resumes entries
+        (λ s live.
+        let below : s < c = live_below job.steps c s live in
+        let of_step : IsOfStep (node_file s) = node_of_step s (early job s few (omega (arith, below, short))) in
+        (during.others (node_file s) (not_catalogue (node_file s) of_step) (not_step_gate (node_file s) of_step) ∙ (diagrams s live).0, (diagrams s live).1))
 
 -- after it no step behind has a gated checkpoint
 pub none_after_commit : (job : Job) (k : ℕ) (e : Entry) (old m : Moment) → AreFiles old.folder → AreFew job → Holds job k old.folder → DuringCommit e old m

@@ -1,5 +1,5 @@
 -- A job: a plan of steps, and the bytes that a folder stores of it.
-use Rattle.std.specs.Prelude.{ℕ, Bool, List, length, get_or}
+use Rattle.std.specs.Prelude.{ℕ, ◌≤◌, Bool, List, length, get_or}
 use Rattle.bool_tables.specs.declared.steps.Planned.{Planned}
 use Rattle.bool_tables.specs.Steps.{plan_tables, table_of_step}
 use Rattle.canon_file.specs.Canon.{canon_nodes, canon_bytes}
@@ -27,3 +27,7 @@ nodes_at job k = length (canon_nodes job.n (table_at job k))
 -- the canonical file of a step's diagram
 abbrev pub file_of : Job → ℕ → List ℕ
 file_of job k = canon_bytes job.n (table_at job k)
+
+-- few enough steps that their numbers are none of the job's files
+abbrev pub AreFew : Job → Type 0
+AreFew job = length job.steps ≤ 1048576

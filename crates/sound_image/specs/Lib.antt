@@ -4,3 +4,4 @@ pub mod Entries
 pub mod Sound
 pub mod Holds
 pub mod Steps
+pub mod Waiting

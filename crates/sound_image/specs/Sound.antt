@@ -1,13 +1,17 @@
 -- What an image shows of a job, and which images are sound for it. An image is taken by its reading, the bytes of each
 -- file.
-use Rattle.std.specs.Prelude.{◌≡◌, ◌⊎◌, ℕ, ◌<◌, ◌≤◌, false, IsTrue, List, [], length, take}
+use Rattle.std.specs.Prelude.{◌≡◌, ◌≢◌, ◌⊎◌, ℕ, ◌<◌, ◌≤◌, false, IsTrue, List, [], length, take}
 use Rattle.bool_tables.specs.Plans.{is_live}
 use Rattle.shelf_model.specs.declared.file_no.FileNo.{FileNo}
 use Rattle.catalogue.specs.declared.layout.Entry.{Entry}
-use Rattle.catalogue.specs.Files.{job_file, step_gate}
+use Rattle.catalogue.specs.Files.{job_step, job_file, step_gate}
 use Rattle.catalogue.specs.Counts.{is_stored, count_in, entry_at}
 use Rattle.catalogue.specs.Entries.{entry_bytes}
 use Rattle.catalogue.specs.Standings.{without_budget}
+use Rattle.sweep_core.specs.declared.checkpoint.Checkpoint.{Checkpoint}
+use Rattle.step_going.specs.Standing.{IsLastOf}
+use Rattle.step_work.specs.Plans.{step_at}
+use Rattle.resumable.specs.Kinds.{RestsOn}
 use Rattle.resumable.specs.Resumable as steps
 use Rattle.sound_image.specs.Files.{node_file}
 use Rattle.canon_file.specs.Laws.{HasForm}
@@ -41,3 +45,9 @@ pub record IsResumable (job : Job) (r : FileNo → List ℕ) : Type 0 where
 pub record IsSound (job : Job) (r : FileNo → List ℕ) : Type 0 where
   pub shown : IsShown job r
   pub resumable : IsResumable job r
+
+-- what the last checkpoint of a step of the job rests on is no file of the job itself
+abbrev pub RestsOnSteps : Job → Type 0
+RestsOnSteps job = (k : ℕ) (r : FileNo → List ℕ) (c : Checkpoint) (f : FileNo) (many : ℕ) → k < length job.steps
+    → steps.GoesOnAt job.n job.text job.steps k r → IsLastOf k r c → RestsOn (step_at job.steps k) c f many
+    → f.step ≢ job_step
