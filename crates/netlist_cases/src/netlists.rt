@@ -1,10 +1,13 @@
 // Small netlists, each accepted or refused as the grammar says.
+ghost use Rattle.std.specs.Prelude.{◌<◌, length};
+ghost use Rattle.blif_reader.specs.Answers.{net_of};
+
 use crate::slashed::text;
-use blif_reader::{BlifKind, read_netlist};
+use blif_reader::{BlifKind, Netlist, read_netlist};
 use std::alloc::{AllocError, Global};
 
 /// Refused texts, with the line and the kind of the first fault. A slash stands for a line feed.
-const REFUSED: [(&str, u32, BlifKind); 62] = [
+const REFUSED: &[(&str, u32, BlifKind)] = &[
     // The first line with words is the model's.
     ("", 0, BlifKind::NoModel),
     ("/ \t/# only a comment/", 0, BlifKind::NoModel),
@@ -143,7 +146,7 @@ const REFUSED: [(&str, u32, BlifKind); 62] = [
 ];
 
 /// Accepted texts, with the number of their signals.
-const ACCEPTED: [(&str, u32); 22] = [
+const ACCEPTED: &[(&str, u32)] = &[
     (".model/.inputs/", 0),
     (".model m with words/.inputs/.end of it/", 0),
     ("# first/.model m/.inputs a b/", 2),
@@ -193,7 +196,7 @@ fn refuses_each_fault(rt: HostRuntime) -> Result<(), AllocError> {
     for (slashed, line, kind) in REFUSED {
         let bytes = text(rt.alloc(), slashed)?;
         assert!(rt;
-            refuses(rt.alloc(), bytes.as_slice(), line, kind),
+            refuses(rt.alloc(), bytes.as_slice(), *line, *kind),
             "{slashed}"
         );
     }
@@ -212,25 +215,30 @@ fn accepts(alloc: Global, bytes: &[u8], signals: u32) -> bool {
 fn accepts_each_form(rt: HostRuntime) -> Result<(), AllocError> {
     for (slashed, signals) in ACCEPTED {
         let bytes = text(rt.alloc(), slashed)?;
-        assert!(rt; accepts(rt.alloc(), bytes.as_slice(), signals), "{slashed}");
+        assert!(rt;
+            accepts(rt.alloc(), bytes.as_slice(), *signals),
+            "{slashed}"
+        );
     }
     Ok(())
+}
+
+fn last_digit(number: u32) -> u8 {
+    b'0' + (number % 10) as u8
 }
 
 /// A model of 65,536 inputs, whose names are their numbers.
 fn too_many_inputs(alloc: Global) -> Result<Vec<u8>, AllocError> {
     let mut bytes = text(alloc, ".model m/.inputs")?;
     for number in 0..65536u32 {
-        bytes.push(b' ')?;
-        for digit in [
-            number / 10000,
-            number / 1000 % 10,
-            number / 100 % 10,
-            number / 10 % 10,
-            number % 10,
-        ] {
-            bytes.push(b'0' + (digit % 10) as u8)?;
-        }
+        bytes.extend_from_slice(&[
+            b' ',
+            last_digit(number / 10000),
+            last_digit(number / 1000),
+            last_digit(number / 100),
+            last_digit(number / 10),
+            last_digit(number),
+        ])?;
     }
     Ok(bytes)
 }
@@ -253,24 +261,32 @@ fn gives_each_part(alloc: Global, bytes: &[u8]) -> Result<bool, AllocError> {
     let Ok(net) = read_netlist(alloc, bytes) else {
         return Ok(false);
     };
-    if net.input_count() != 2 || net.signal_count() != 5 {
-        return Ok(false);
-    }
-    if net.row_count(4) != 2 {
+    if net.signal_count() != 5 {
         return Ok(false);
     }
     let visits = net.visits(alloc, &[2])?;
-    Ok(
-        net.signal(b"t".as_slice()) == Some(4)
-            && net.signal(b"half".as_slice()).is_none()
-            && net.name(3) == b"c".as_slice()
-            && net.outputs() == [2, 3].as_slice()
-            && net.block_inputs(2) == [4, 3].as_slice()
-            && net.row(4, 1) == b"-1".as_slice()
-            && !net.row_output(2)
-            && net.row_output(4)
-            && visits.as_slice() == [0, 1, 4, 3, 2].as_slice(),
-    )
+    Ok(visits.as_slice() == [0, 1, 4, 3, 2].as_slice() && has_names(&net) && has_blocks(&net))
+}
+
+/// Whether its names and outputs are those of a half adder.
+fn has_names(net: &Netlist) -> bool
+    requires { 3 < length (net_of net.now).names }
+{
+    net.signal(b"t".as_slice()) == Some(4)
+        && net.signal(b"half".as_slice()).is_none()
+        && net.name(3) == b"c".as_slice()
+        && net.outputs() == [2, 3].as_slice()
+}
+
+/// Whether its blocks are.
+fn has_blocks(net: &Netlist) -> bool {
+    net.input_count() == 2
+        && net.signal_count() == 5
+        && net.row_count(4) == 2
+        && net.row(4, 1) == b"-1".as_slice()
+        && net.block_inputs(2) == [4, 3].as_slice()
+        && !net.row_output(2)
+        && net.row_output(4)
 }
 
 #[test]

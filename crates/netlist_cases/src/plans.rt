@@ -1,5 +1,5 @@
 // Plans of small netlists, and of one that has too many steps.
-ghost use Rattle.std.specs.Prelude.{◌≡◌, ℕ, ◌<◌, ◌≤◌, length, map, slice_index, nat_lt, IsTrue, IfOk};
+ghost use Rattle.std.specs.Prelude.{◌≡◌, ℕ, ◌<◌, ◌≤◌, length, map, slice_index, nat_lt, IsTrue, IfOk, IfSome};
 ghost use Rattle.std.specs.List.{list_all};
 ghost use Rattle.blif_reader.specs.Answers.{net_of};
 ghost use Rattle.net_plan.specs.Planners.{signals_of};
@@ -72,16 +72,24 @@ fn gone(gone: u32) -> Step {
     Step::Drop { gone }
 }
 
+/// The signal with a name, where there is one.
+fn known(net: &Netlist, name: &str) -> Option<u32>
+    ensures { IfSome result (λ signal. signal < length (net_of net.now).names) }
+{
+    match net.signal(name.as_bytes()) {
+        Some(signal) if signal < net.signal_count() => Some(signal),
+        _ => None,
+    }
+}
+
 /// The signals with some names, in order.
 fn signals(alloc: Global, net: &Netlist, names: &[&str]) -> Result<Vec<u32>, AllocError>
     ensures { IfOk result (λ v. (i : ℕ) → i < length v.items → slice_index v.items i < length (net_of net.now).names) }
 {
     let mut found = Vec::new(alloc);
     for name in names {
-        if let Some(signal) = net.signal(name.as_bytes()) {
-            if signal < net.signal_count() {
-                found.push(signal)?;
-            }
+        if let Some(signal) = known(net, name) {
+            found.push(signal)?;
         }
     }
     Ok(found)
@@ -103,6 +111,14 @@ fn planned(
     Ok(plan_signals(alloc, &net, levels, wanted.as_slice(), first))
 }
 
+/// Whether there is a plan, of so many steps, that makes what is wanted in these.
+fn has(plan: Option<NetPlan>, count: usize, made: &[u32]) -> bool {
+    match plan {
+        Some(plan) => plan.steps.items().len() == count && plan.made.items() == made,
+        None => false,
+    }
+}
+
 /// Whether the plan of these signals over two inputs has so many steps, and makes them in these.
 fn numbers_so(
     alloc: Global,
@@ -113,23 +129,25 @@ fn numbers_so(
     made: &[u32],
 ) -> Result<bool, Fail> {
     let bytes = text(alloc, slashed)?;
-    let plan = planned(alloc, bytes.as_slice(), &[0, 1], names, first)??;
-    Ok(plan.steps.items().len() == count && plan.made.items() == made)
+    let plan = planned(alloc, bytes.as_slice(), &[0, 1], names, first)?;
+    Ok(has(plan.ok(), count, made))
 }
+
+/// Signals of a netlist, the first step of their plan, how many it has, and those that make them.
+const NUMBERED: &[(&str, &[&str], u32, usize, &[u32])] = &[
+    (HALF_ADDER, &["s", "c"], 0, 36, &[30, 21]),
+    (CONSTANTS, &["z"], 0, 1, &[0]),
+    (CONSTANTS, &["o"], 1, 5, &[3]),
+    (CONSTANTS, &["y"], 6, 15, &[17]),
+    (JOINED, &["y"], 0, 13, &[8]),
+    (JOINED, &["b", "a"], 1048574, 2, &[1048574, 1048575]),
+    (JOINED, &[], 1048576, 0, &[]),
+];
 
 #[test]
 fn numbers_the_steps_of_what_is_wanted(rt: HostRuntime) -> Result<(), Fail> {
-    let cases: [(&str, &[&str], u32, usize, &[u32]); 7] = [
-        (HALF_ADDER, &["s", "c"], 0, 36, &[30, 21]),
-        (CONSTANTS, &["z"], 0, 1, &[0]),
-        (CONSTANTS, &["o"], 1, 5, &[3]),
-        (CONSTANTS, &["y"], 6, 15, &[17]),
-        (JOINED, &["y"], 0, 13, &[8]),
-        (JOINED, &["b", "a"], 1048574, 2, &[1048574, 1048575]),
-        (JOINED, &[], 1048576, 0, &[]),
-    ];
-    for (slashed, names, first, count, made) in cases {
-        let numbered = numbers_so(rt.alloc(), slashed, names, first, count, made)?;
+    for (slashed, names, first, count, made) in NUMBERED {
+        let numbered = numbers_so(rt.alloc(), slashed, names, *first, *count, made)?;
         assert!(rt; numbered, "{slashed} {names:?}");
     }
     Ok(())
@@ -152,8 +170,8 @@ fn plans_on(
     ensures { signals_of planner.new ≡ signals_of planner.old }
 {
     let wanted = signals(alloc, net, names)?;
-    let plan = planner.plan(alloc, net, &[0, 1], wanted.as_slice(), first)?;
-    Ok(plan.steps.items().len() == count && plan.made.items() == made)
+    let plan = planner.plan(alloc, net, &[0, 1], wanted.as_slice(), first);
+    Ok(has(plan.ok(), count, made))
 }
 
 /// Whether the planner has no plan of these signals over two inputs.
@@ -371,19 +389,21 @@ fn table_of(alloc: Global, slashed: &str, levels: &[u32], name: &str) -> Result<
     Ok(Vec::from_slice(alloc, table.items())?)
 }
 
+/// Signals of netlists, and their tables.
+const TABLES: &[(&str, &str, [bool; 4])] = &[
+    (HALF_ADDER, "s", [false, true, true, false]),
+    (HALF_ADDER, "c", [false, false, false, true]),
+    (HALF_ADDER, "t", [false, true, true, true]),
+    (HALF_ADDER, "b", [false, true, false, true]),
+    (CONSTANTS, "z", [false, false, false, false]),
+    (CONSTANTS, "o", [true, true, true, true]),
+    (CONSTANTS, "y", [true, true, true, false]),
+    (NEITHER, "y", [true, false, false, false]),
+];
+
 #[test]
 fn makes_the_tables_of_signals(rt: HostRuntime) -> Result<(), Fail> {
-    let cases: [(&str, &str, [bool; 4]); 8] = [
-        (HALF_ADDER, "s", [false, true, true, false]),
-        (HALF_ADDER, "c", [false, false, false, true]),
-        (HALF_ADDER, "t", [false, true, true, true]),
-        (HALF_ADDER, "b", [false, true, false, true]),
-        (CONSTANTS, "z", [false, false, false, false]),
-        (CONSTANTS, "o", [true, true, true, true]),
-        (CONSTANTS, "y", [true, true, true, false]),
-        (NEITHER, "y", [true, false, false, false]),
-    ];
-    for (slashed, name, values) in cases {
+    for (slashed, name, values) in TABLES {
         let table = table_of(rt.alloc(), slashed, &[0, 1], name)?;
         assert!(rt; table.as_slice() == values.as_slice(), "{slashed} {name}");
     }
