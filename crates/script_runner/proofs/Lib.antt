@@ -10,6 +10,8 @@ pub mod RunSteps
 pub mod StepByStep
 pub mod SayingLines
 pub mod Resting
+pub mod TogetherPuts
+pub mod TogetherLaws
 pub mod Needed
 pub mod RunAgain
 pub mod Taking

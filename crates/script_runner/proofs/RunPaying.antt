@@ -27,7 +27,7 @@ use Rattle.sound_image.proofs.AttachLaws.{standing}
 use Rattle.step_engine.specs.Running.{run_stop, PaysRest}
 use Rattle.script_runner.specs.declared.finish.Finish.{Finish}
 use Rattle.script_runner.specs.Calls.{PaysFirst, IsGated}
-use Rattle.script_runner.specs.Stops.{run_rest, committed_turns, paid_in, IsRestOf, PayAtLeast, PaysAt, PaysThrough, IsPaidRun, RunPays, StopsIn, IsPaidStep, StepPays}
+use Rattle.script_runner.specs.Stops.{run_rest, committed_turns, paid_in, IsRestOf, PayAtLeast, PaysAt, PaysThrough, IsPaidRun, RunPays, StopsIn, IsPaidStep, most_together, StepPays}
 use Rattle.diagram_list.specs.Saying.{IsSaying}
 use Rattle.script_runner.specs.Fetching.{OnlyFetched}
 use Rattle.script_runner.specs.Running.{SaysOnly}
@@ -42,11 +42,11 @@ use Rattle.script_runner.proofs.StopLaws.{pays_more, pays_join, pays_still, fetc
 abbrev pub rest_of : ℕ → ℕ
 rest_of rest = rest - (2 ^ 24 + 2 ^ 21 + 2 ^ 17)
 
--- the calls that aren't paid for by turns before a step: for attaching the job, the banner and tidying up the last
--- committed step, for the lines that were said, and once the first step was taken what paid for going on with it
+-- the calls that aren't paid for by turns before a step: for attaching the job, the banner and tidying up the steps
+-- of the last commit, for the lines that were said, and once the first step was taken what paid for going on with it
 abbrev pub spent_at : ℕ → ℕ → ℕ → ℕ → ℕ → ℕ → ℕ
 spent_at bytes lines left done step rest =
-    66138 + pieces bytes + 2 * (lines - left) + (rest_of rest - unpaid done step (rest_of rest))
+    67161 + pieces bytes + 2 * (lines - left) + (rest_of rest - unpaid done step (rest_of rest))
 
 -- a run so far: what a stop costs at each moment of it, and now
 pub record PaysSoFar (job : Job) (paid spent rest : ℕ) (old new : World) : Type 0 where
@@ -99,16 +99,16 @@ pay_now job paid spent rest old new so_far image is_image =
     let few = at.few in
     omega (arith, no_fewer, few)
 
--- a step was taken, or stopped the run
+-- steps were taken, or stopped the run
 pub step_on : (job : Job) (paid spent unspent rest : ℕ) (result : Result Entry Finish) (old mid new : World)
-    → ((k : ℕ) → k ≤ mid.clock → new.moment k ≡ mid.moment k) → spent + (run_stop + 5 + unspent) ≤ rest → PaysSoFar job paid spent rest old mid
+    → ((k : ℕ) → k ≤ mid.clock → new.moment k ≡ mid.moment k) → spent + (run_stop + most_together + unspent) ≤ rest → PaysSoFar job paid spent rest old mid
     → StepPays job (paid_now paid spent old mid) unspent result mid new → PaysThrough job paid (old.clock + rest) old new
 step_on job paid spent unspent rest result old mid new past within so_far step =
     pays_join job paid (old.clock + rest) old mid new past so_far.stops
-    (pays_more job paid (paid_now paid spent old mid) (mid.clock + (run_stop + 5 + unspent)) (old.clock + rest) mid new (omega arith) (omega (arith, within)) step.stops)
+    (pays_more job paid (paid_now paid spent old mid) (mid.clock + (run_stop + most_together + unspent)) (old.clock + rest) mid new (omega arith) (omega (arith, within)) step.stops)
 
 pub step_done : (job : Job) (paid spent unspent rest : ℕ) (e : Entry) (old mid new : World)
-    → ((k : ℕ) → k ≤ mid.clock → new.moment k ≡ mid.moment k) → spent + (run_stop + 5 + unspent) ≤ rest → PaysSoFar job paid spent rest old mid
+    → ((k : ℕ) → k ≤ mid.clock → new.moment k ≡ mid.moment k) → spent + (run_stop + most_together + unspent) ≤ rest → PaysSoFar job paid spent rest old mid
     → StepPays job (paid_now paid spent old mid) unspent (Ok e) mid new → PaysSoFar job paid (spent + unspent) rest old new
 step_done job paid spent unspent rest e old mid new past within so_far step = record {
   stops = step_on job paid spent unspent rest (Ok e) old mid new past within so_far step;
@@ -208,9 +208,9 @@ rest_is_great : (job : Job) (lines paid rest : ℕ) (folder : Folder) → AreFil
 rest_is_great job lines paid rest folder files is =
     let begins = (is.pays (chosen (λ _ x. x.bytes) folder) (standing_image folder files)).begins in omega (arith, begins)
 
--- what is spent before a step, and what a stop in it costs besides
+-- what is spent before a step, and what a stop in it and those that are committed together with it costs besides
 spent_within : (bytes lines left done step rest : ℕ) → bytes ≤ 5242900 → lines ≤ 1048576 → run_rest ≤ rest
-    → spent_at bytes lines left done step rest + (run_stop + 5 + unpaid done step (rest_of rest)) ≤ rest
+    → spent_at bytes lines left done step rest + (run_stop + most_together + unpaid done step (rest_of rest)) ≤ rest
 spent_within bytes lines left done step rest short few great =
     let less = unpaid_few done step (rest_of rest) in omega (arith, short, few, great, less)
 
@@ -254,20 +254,20 @@ module _ {S : Type 0} (tells : S → Bool) (world : S → World) (law : (s : S) 
       (attached_so_far job given paid (9 + pieces (length job.bytes)) rest (world old) (world mid) files is.sound is.shows (run.did told) (omega (arith, few, size))
       (omega (arith, great, short)))
 
-  -- and the last committed step was tidied up, or a part of that was done
+  -- and the steps of the last commit were tidied up, or a part of that was done
   pub tidied_so_far : (plan : IsWellFormed job.n job.text job.steps) (step left : ℕ) (old mid new : S) → IsTrue (tells old) → step ≤ length job.steps
       → (AreSound job (now (world old)).folder → Holds job step (now (world mid)).folder)
       → Told tells mid new (Ran (TidiedLast job.steps step (now (world mid))) (world mid) (world new)) → IsTrue (tells new)
-      → (world new).clock ≤ (world mid).clock + 66128 → (paid rest : ℕ) → IsPaidRun job lines paid rest (now (world old)).folder
+      → (world new).clock ≤ (world mid).clock + 67151 → (paid rest : ℕ) → IsPaidRun job lines paid rest (now (world old)).folder
       → PaysSoFar job paid (9 + pieces (length job.bytes) + 1) rest (world old) (world mid)
       → PaysSoFar job paid (spent_at (length job.bytes) lines left (count_in (present (now (world old)).folder)) step rest) rest (world old) (world new)
   tidied_so_far plan step left old mid new tells_old upto holds tidies told few paid rest is so_far =
       let great = rest_is_great job lines paid rest (now (world old)).folder (law old tells_old) is in
       let short = is.short in
       let ran = tidies.did told in
-      so_more job paid (9 + pieces (length job.bytes) + 1 + 66128)
+      so_more job paid (9 + pieces (length job.bytes) + 1 + 67151)
       (spent_at (length job.bytes) lines left (count_in (present (now (world old)).folder)) step rest) rest (world old) (world new) (omega arith)
-      (pays_on job paid (9 + pieces (length job.bytes) + 1) 66128 rest (world old) (world mid) (world new) ran.moments.later ran.moments.past
+      (pays_on job paid (9 + pieces (length job.bytes) + 1) 67151 rest (world old) (world mid) (world new) ran.moments.later ran.moments.past
       few (omega (arith, great, short))
       (λ k from to image is_image.
       pays_as_before job plan step upto (now (world mid)) ((world new).moment k) (law mid (tidies.before told)) (holds is.sound).ready
@@ -287,7 +287,7 @@ module _ {S : Type 0} (tells : S → Bool) (world : S → World) (law : (s : S) 
     abbrev spent : ℕ
     spent = spent_at (length job.bytes) lines left done step rest
 
-    enough : spent + (run_stop + 5 + unpaid done step (rest_of rest)) ≤ rest
+    enough : spent + (run_stop + most_together + unpaid done step (rest_of rest)) ≤ rest
     enough = spent_within (length job.bytes) lines left done step rest is.short is.few_lines
         (rest_is_great job lines paid rest (now (world old)).folder (law old tells_old) is)
 
@@ -298,17 +298,17 @@ module _ {S : Type 0} (tells : S → Bool) (world : S → World) (law : (s : S) 
           (step_paid job lines paid spent rest step gated (world old) (world mid) plan (law old tells_old) is reached within keeps later (holds is.sound)
           (gates is.sound) so_far)
 
-      -- a step stopped the run
+      -- steps stopped the run
       pub stopped_step : PaysThrough job paid ((world old).clock + rest) (world old) (world new)
       stopped_step = step_on job paid spent (unpaid done step (rest_of rest)) rest result (world old) (world mid) (world new) past enough so_far step_so
 
-      -- or it was taken
-      pub taken_step : (e : Entry) → result ≡ Ok e
-          → PaysSoFar job paid (spent_at (length job.bytes) lines left done (step + 1) rest) rest (world old) (world new)
-      taken_step e ok =
+      -- or they were taken
+      pub taken_step : (e : Entry) → result ≡ Ok e → step ≤ e.number
+          → PaysSoFar job paid (spent_at (length job.bytes) lines left done (e.number + 1) rest) rest (world old) (world new)
+      taken_step e ok from =
           let few = unpaid_few done step (rest_of rest) in
-          let none = none_unpaid done step (rest_of rest) reached in
-          so_more job paid (spent + unpaid done step (rest_of rest)) (spent_at (length job.bytes) lines left done (step + 1) rest) rest (world old) (world new)
+          let none = none_unpaid done e.number (rest_of rest) (omega (arith, reached, from)) in
+          so_more job paid (spent + unpaid done step (rest_of rest)) (spent_at (length job.bytes) lines left done (e.number + 1) rest) rest (world old) (world new)
           (omega (arith, few, none))
           (step_done job paid spent (unpaid done step (rest_of rest)) rest e (world old) (world mid) (world new) past enough so_far
           (subst (λ r. StepPays job (paid_now paid spent (world old) (world mid)) (unpaid done step (rest_of rest)) r (world mid) (world new)) ok step_so))

@@ -41,7 +41,7 @@ use Rattle.script_runner.specs.Said.{whole_lines, acknowledged, said_count, no_l
 use Rattle.diagram_list.specs.Saying.{StaysThere}
 use Rattle.diagram_list.proofs.SayingLaws.{stays_then, stays_on_shelf}
 use Rattle.script_runner.specs.Running.{IsSafe, Begins, AllBegin, WaitsNot, OthersAre, IsRunning, HasSaid, AreEmptied, IsEntryDamage, IsMetDamage, stood_after}
-use Rattle.script_runner.specs.StepRuns.{CountsAbout, IsTaking, HasEntry, HasSteps, HoldsStep, NoneDrops, KeepsLater, TakesStep}
+use Rattle.script_runner.specs.StepRuns.{CountsAbout, IsTaking, HasEntry, HasSteps, HoldsSteps, NoneDrops, KeepsLater, TakesSteps}
 use Rattle.script_runner.proofs.LineOrder.{none_before, ended_rises}
 use Rattle.script_runner.proofs.SweepDamage.{fault_passes, live_not_dropped}
 use Rattle.script_runner.proofs.SaidLaws.{whole_lines-append, start_line_is_one, resume_line_is_one, said_below, acknowledged_least}
@@ -86,10 +86,9 @@ pub record Sounds (job : Job) (lines : List LineEnd) (count : ℕ) (since todo :
   pub text_is : text_at job lines old ≡ since ++ todo
   pub holds : Holds job count (now new).folder
 
--- the file of each diagram that was there at first is as it was, unless one of these steps drops it, or the last one that
--- was committed at first does, which may be tidied up once more
+-- the file of each diagram that was there at first is as it was, unless one of the steps so far drops it
 abbrev pub KeepsUndropped : List Planned → ℕ → ℕ → Folder → Folder → Type 0
-KeepsUndropped steps done step old new = (k : ℕ) → k < done → NoneDrops steps (done - 1) step k
+KeepsUndropped steps done step old new = (k : ℕ) → k < done → NoneDrops steps 0 step k
     → file_in new (node_file k) ≡ file_in old (node_file k)
 
 -- the catalogue so far: the entries that were there at first stay, as they are sure and as they are read, each step since has its entry,
@@ -398,7 +397,7 @@ module _ (job : Job) (lines : List LineEnd) (plan : IsPlan job lines) (old : Wor
     }))
       where
         -- the diagram is live as the step begins, so none of the steps before it drops it
-        undropped : (k : ℕ) → f ≡ node_file k → NoneDrops job.steps (done_at old - 1) step k
+        undropped : (k : ℕ) → f ≡ node_file k → NoneDrops job.steps 0 step k
         undropped k is j from until =
             let live = fault_passes (is_live (take swept.step job.steps)) job.n _ (stood_after swept.began new) f place
             swept.swept
@@ -421,15 +420,16 @@ module _ (job : Job) (lines : List LineEnd) (plan : IsPlan job lines) (old : Wor
       uncommitted = let low = point.uncommitted in let reached = at.reached in omega (arith, low, reached, count);
     }))
 
-    -- a step is taken
-    module _ (new : World) (result : Result Entry Finish) (all_said : ended_before step lines ≤ at.place) (takes : TakesStep job step result mid new) where
+    -- steps are taken, and no line ends behind one of them but the last one that may be
+    module _ (new : World) (until : ℕ) (result : Result Entry Finish) (all_said : ended_before (until - 1) lines ≤ at.place)
+        (takes : TakesSteps job step until result mid new) where
       abbrev Takes : Moment → Type 0
-      Takes m = IsTaking (length job.steps) step (now mid).folder m.folder
+      Takes m = IsTaking (length job.steps) step until (now mid).folder m.folder
 
       pub same_at : (m : Moment) → Takes m → (k : ℕ) → k < step → entry_at k (present m.folder) ≡ entry_at k (present (now mid).folder)
       same_at m is k below = same_entries step (file_in (now mid).folder catalogue).bytes (file_in m.folder catalogue).bytes is.reads k below
 
-      held : AreSound job (now old).folder → HoldsStep job step result mid new
+      held : AreSound job (now old).folder → HoldsSteps job step result mid new
       held sound = takes.holds (at.sound sound).holds
 
       pub taking : Ongoing job lines old new
@@ -437,9 +437,9 @@ module _ (job : Job) (lines : List LineEnd) (plan : IsPlan job lines) (old : Wor
         moments = joins old mid new (IsGoing job lines old) at.run.moments (record {
           later = takes.run.moments.later;
           past = takes.run.moments.past;
-          each = λ k from until.
+          each = λ k from to.
               let m : Moment = new.moment k in
-              let quiet = takes.run.moments.each k from until in
+              let quiet = takes.run.moments.each k from to in
               let is : Takes m = quiet.holds in
               record {
                 front = since;
@@ -453,13 +453,13 @@ module _ (job : Job) (lines : List LineEnd) (plan : IsPlan job lines) (old : Wor
                   keeps = λ count front long begins. still_begins (now old).folder m.folder count front files begins
                       (is.kept front (few_bytes count front long begins) (at.made.kept front (first_bytes count front long begins) (front_kept (now old).folder count front files begins)))
                       (λ image is_image. ((is.counts image is_image).stored, no_fewer image (is.counts image is_image)));
-                  waits = λ image is_image. none_waits lines (now old).folder at.place step since image at.within all_said
+                  waits = λ image is_image. none_waits lines (now old).folder at.place (until - 1) since image at.within all_said
                       (less image (is.counts image is_image)) (omega (arith, feeds));
                   safe_run = λ sound. record {
                     rest = remains job rest;
                     text_is = (at.sound sound).text_is;
                     safe = λ image is_image. safe_with job lines step (now old).folder since (bytes_in image) files
-                        ((held sound).images.each k from until image is_image) few_said at.reached;
+                        ((held sound).images.each k from to image is_image) few_said at.reached;
                   };
                 };
               };
@@ -473,36 +473,40 @@ module _ (job : Job) (lines : List LineEnd) (plan : IsPlan job lines) (old : Wor
           few_bytes : (count : ℕ) (front : List ℕ) → length front ≡ 128 * count → AllBegin count front (now old).folder → length front ≤ 128 * step
           few_bytes count front long begins = let low = (begun_few (now old).folder count front files begins).1 in let reached = at.reached in omega (arith, long, low, reached)
 
-          no_fewer : (image : Image) → CountsAbout step (bytes_in image) → done_at old ≤ count_in (bytes_in image)
+          no_fewer : (image : Image) → CountsAbout step until (bytes_in image) → done_at old ≤ count_in (bytes_in image)
           no_fewer image about = let low = about.no_fewer in let reached = at.reached in omega (arith, low, reached)
 
-          less : (image : Image) → CountsAbout step (bytes_in image) → count_in (bytes_in image) - 1 ≤ step
+          less : (image : Image) → CountsAbout step until (bytes_in image) → count_in (bytes_in image) - 1 ≤ until - 1
           less image about = let high = about.no_more in omega (arith, high)
 
-    pub has_taken : (e : Entry) (new : World) → step < length job.steps → ended_before step lines ≤ at.place → TakesStep job step (Ok e) mid new
-        → AtStep job lines (step + 1) rest old new × (AreSound job (now old).folder → IsEntryOfStep job step e)
-    has_taken e new within all_said takes = (
+    pub has_taken : (e : Entry) (new : World) (until : ℕ) → until ≤ length job.steps → ended_before (until - 1) lines ≤ at.place
+        → TakesSteps job step until (Ok e) mid new
+        → AtStep job lines (e.number + 1) rest old new × (AreSound job (now old).folder → IsEntryOfStep job e.number e)
+    has_taken e new until upto all_said takes = (
       record {
-        run = taking new (Ok e) all_said takes;
+        run = taking new until (Ok e) all_said takes;
         ready = takes.ready;
-        reached = let reached = at.reached in omega (arith, reached);
-        upto = omega (arith, within);
+        reached = let reached = at.reached in omega (arith, reached, from_step);
+        upto = omega (arith, upto, before_until);
         spoken = at.spoken;
         parts = at.parts;
         place = at.place;
         place_is = at.place_is;
         within = at.within;
         rest_is = at.rest_is;
-        earlier = λ i inside. let before : (get_or lines i no_line).last < step = at.earlier i inside in omega (arith, before);
-        waits = let back : step + 1 - 1 ≡ step = omega arith in subst (λ k. ended_before k lines ≤ at.place) (sym back) all_said;
+        earlier = λ i inside. let before : (get_or lines i no_line).last < step = at.earlier i inside in omega (arith, before, from_step);
+        waits =
+            let fewer : ended_before (e.number + 1 - 1) lines ≤ ended_before (until - 1) lines =
+            ended_rises (e.number + 1 - 1) (until - 1) lines (omega (arith, before_until)) in
+            omega (arith, fewer, all_said);
         body = at.body;
         said_is = takes.run.station.said_is ∙ at.said_is;
-        shown = still_shown job.steps step (present (now mid).folder) (present (now new).folder) at.spoken at.body (same_at new (Ok e) all_said takes (now new) last) at.below at.shown;
-        below = below_later step at.spoken at.below;
+        shown = still_shown job.steps step (present (now mid).folder) (present (now new).folder) at.spoken at.body (same_at new until (Ok e) all_said takes (now new) last) at.below at.shown;
+        below = below_later step (e.number + 1) at.spoken (omega (arith, from_step)) at.below;
         made = record {
           kept = λ front short kept. last.kept front (let reached = at.reached in omega (arith, short, reached)) (at.made.kept front short kept);
           reads = shorter (done_at old) (file_in (now mid).folder catalogue).bytes (file_in (now new).folder catalogue).bytes at.reached last.reads ∙ at.made.reads;
-          made = λ k from until. elim (cases_lt k step) [
+          made = λ k from to. elim (cases_lt k step) [
             | inl below ↦
                 let found = at.made.made k from below in (
                   found.0,
@@ -510,37 +514,47 @@ module _ (job : Job) (lines : List LineEnd) (plan : IsPlan job lines) (old : Wor
                     stands = record {
                       entry = found.1.stands.entry;
                       number = found.1.stands.number;
-                      bytes = same_at new (Ok e) all_said takes (now new) last k below ∙ found.1.stands.bytes;
+                      bytes = same_at new until (Ok e) all_said takes (now new) last k below ∙ found.1.stands.bytes;
                     };
                     kind_is = found.1.kind_is;
                   },
                 )
-            | inr beyond ↦
-                let here : k ≡ step = omega (arith, until, beyond) in
-                (e, subst (λ j. HasEntry job.steps j e (present (now new).folder)) (sym here) takes.made)
+            | inr beyond ↦ elim (cases_lt k e.number) [
+              | inl earlier ↦ takes.made k (omega (arith, beyond)) earlier
+              | inr latest ↦
+                  let here : k ≡ e.number = omega (arith, to, latest) in
+                  (e, subst (λ j. HasEntry job.steps j e (present (now new).folder)) (sym here) takes.last)
+            ]
           ];
-          emptied = λ k from until gone drops_it. elim (cases_lt k step) [
+          emptied = λ k from to gone drops_it. elim (cases_lt k step) [
             | inl below ↦
-                let gone_below : gone < k = drop_below job k gone plan.well_formed (omega (arith, below, within)) drops_it in
+                let gone_below : gone < k =
+                drop_below job k gone plan.well_formed (omega (arith, to, before_until, upto)) drops_it in
                 takes.still_empty gone (omega (arith, gone_below, below)) (at.made.emptied k from below gone drops_it)
-            | inr beyond ↦ takes.emptied k (omega (arith, beyond)) until gone drops_it
+            | inr beyond ↦ takes.emptied k (omega (arith, beyond)) to gone drops_it
           ];
           keeps = λ k below none.
               let reached = at.reached in
               takes.keeps k (omega (arith, below, reached))
-              (λ j from until. none j (omega (arith, reached, from)) until)
-              ∙ at.made.keeps k below (λ j from until. none j from (omega (arith, until)));
-          later = λ f from before. takes.later f from before ∙ at.made.later f (omega (arith, from)) before;
+              (λ j from to. none j (omega arith) to)
+              ∙ at.made.keeps k below (λ j from to. none j from (omega (arith, to, from_step)));
+          later = λ f from before. takes.later f from before ∙ at.made.later f (omega (arith, from, from_step)) before;
         };
         sound = λ sound. record { text_is = (at.sound sound).text_is; holds = (holds_it sound).ok.0 };
       },
       λ sound. (holds_it sound).ok.1,
     )
       where
-        last : IsTaking (length job.steps) step (now mid).folder (now new).folder
-        last = ran_end mid new (λ m. IsTaking (length job.steps) step (now mid).folder m.folder) takes.run
+        from_step : step ≤ e.number
+        from_step = takes.reached.0
 
-        holds_it : AreSound job (now old).folder → HoldsStep job step (Ok e) mid new
+        before_until : e.number < until
+        before_until = takes.reached.1
+
+        last : IsTaking (length job.steps) step until (now mid).folder (now new).folder
+        last = ran_end mid new (λ m. IsTaking (length job.steps) step until (now mid).folder m.folder) takes.run
+
+        holds_it : AreSound job (now old).folder → HoldsSteps job step (Ok e) mid new
         holds_it sound = takes.holds (at.sound sound).holds
 
         shorter : (done : ℕ) (xs ys : List ℕ) → done ≤ step → take (128 * step) ys ≡ take (128 * step) xs → take (128 * done) ys ≡ take (128 * done) xs

@@ -75,13 +75,14 @@ below_next number (line ∷ lines) all =
     and_from (nat_lt line.shows (number + 1)) (list_all (λ (l : LineEnd). nat_lt l.shows (number + 1)) lines) (lt-ltb line.shows (number + 1) (omega (arith, here)))
     (below_next number lines (and_parts (nat_le line.shows number) rest all).1)
 
-pub below_later : (bound : ℕ) (lines : List LineEnd) → IsTrue (list_all (λ (l : LineEnd). nat_lt l.shows bound) lines) → IsTrue (list_all (λ (l : LineEnd). nat_lt l.shows (bound + 1)) lines)
-below_later bound [] all = refl
-below_later bound (line ∷ lines) all =
+pub below_later : (bound later : ℕ) (lines : List LineEnd) → bound ≤ later → IsTrue (list_all (λ (l : LineEnd). nat_lt l.shows bound) lines)
+    → IsTrue (list_all (λ (l : LineEnd). nat_lt l.shows later) lines)
+below_later bound later [] up all = refl
+below_later bound later (line ∷ lines) up all =
     let rest : Bool = list_all (λ (l : LineEnd). nat_lt l.shows bound) lines in
     let here : line.shows < bound = ltb-true line.shows bound (and_parts (nat_lt line.shows bound) rest all).0 in
-    and_from (nat_lt line.shows (bound + 1)) (list_all (λ (l : LineEnd). nat_lt l.shows (bound + 1)) lines) (lt-ltb line.shows (bound + 1) (omega (arith, here)))
-    (below_later bound lines (and_parts (nat_lt line.shows bound) rest all).1)
+    and_from (nat_lt line.shows later) (list_all (λ (l : LineEnd). nat_lt l.shows later) lines) (lt-ltb line.shows later (omega (arith, here, up)))
+    (below_later bound later lines up (and_parts (nat_lt line.shows bound) rest all).1)
 
 -- the shape of a run that has said nothing
 pub says_no_shape : (steps : List Planned) (lines : List LineEnd) (first here : FileNo → List ℕ) → IsShapeFront steps lines first here []

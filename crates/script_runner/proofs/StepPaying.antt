@@ -1,8 +1,8 @@
--- What a stop costs while a step of a run is made, committed and tidied up.
-use Rattle.std.proofs.Common.{◌≡◌, ◌∙◌, ℕ, ◌+◌, ◌-◌, ◌*◌, ◌/◌, ◌^◌, ◌<◌, ◌≤◌, Bool, true, false, cond, nat_lt, min, List, [], ◌++◌, length, take, refl, sym, ap, subst, inl, inr, arith}
-use Rattle.std.specs.Prelude.{IsTrue, Result, Ok, Err}
+-- What a stop costs while a step of a run is made, committed together with the drops behind it, and tidied up.
+use Rattle.std.proofs.Common.{◌≡◌, ◌∙◌, ℕ, ◌+◌, ◌-◌, ◌*◌, ◌/◌, ◌^◌, ◌<◌, ◌≤◌, Bool, true, false, cond, nat_lt, min, List, [], length, take, drop, refl, sym, ap, subst, inl, inr, arith}
+use Rattle.std.specs.Prelude.{IsTrue, zero, suc, Result, Ok, Err}
 use Rattle.std.specs.List.{list_all}
-use Rattle.std.proofs.lemmas.List.{length-append, take-take, take_at}
+use Rattle.std.proofs.lemmas.Bool.{cases_lt}
 use Rattle.bool_tables.specs.declared.steps.Step.{Step}
 use Rattle.bool_tables.specs.declared.steps.Planned.{Planned}
 use Rattle.bool_tables.specs.Plans.{IsWellFormed, operands}
@@ -18,11 +18,10 @@ use Rattle.shelf_model.proofs.Images.{chosen, standing_image}
 use Rattle.shelf_model.proofs.Runs.{ran_end, ran_weakens}
 use Rattle.catalogue.specs.declared.layout.Entry.{Entry}
 use Rattle.catalogue.specs.Files.{catalogue}
-use Rattle.catalogue.specs.Counts.{present, count_in, entry_at}
-use Rattle.catalogue.specs.Entries.{entry_bytes, Fits}
-use Rattle.catalogue.specs.Commits.{IsReady, DuringCommit, IsCommitted}
-use Rattle.catalogue.proofs.Counted.{ready_counts, entry_placed}
-use Rattle.catalogue.proofs.Places.{length_entry}
+use Rattle.catalogue.specs.Counts.{present, count_in}
+use Rattle.catalogue.specs.Entries.{Fits}
+use Rattle.catalogue.specs.Commits.{IsReady}
+use Rattle.catalogue.proofs.Counted.{ready_counts}
 use Rattle.step_work.specs.Tuples.{sweeps}
 use Rattle.sweep_checkpoint.specs.Stops.{turns_in, shown_turns, SamePoints, StopsCostAt, StopsCost}
 use Rattle.step_going.proofs.Gated.{none_gated}
@@ -35,7 +34,8 @@ use Rattle.sound_image.proofs.Numbers.{IsOfStep, not_catalogue, not_step_gate}
 use Rattle.sound_image.proofs.Resuming.{AreFew, early}
 use Rattle.sound_image.proofs.AttachLaws.{standing}
 use Rattle.step_engine.specs.Simple.{IsStepOf}
-use Rattle.step_engine.specs.OneFile.{OnlyMade, OnlyTidied}
+use Rattle.step_engine.specs.OneFile.{OnlyMade}
+use Rattle.step_engine.specs.StepEntries.{IsEntryFor}
 use Rattle.step_engine.specs.Running.{run_stop, run_calls, IsGoneOn, PaysRest}
 use Rattle.step_engine.specs.Finding.{IsOfJob}
 use Rattle.step_engine.specs.LeftBehind.{most_cut}
@@ -43,10 +43,11 @@ use Rattle.step_engine.proofs.Gated.{gated_sweeps, gated_point}
 use Rattle.script_runner.specs.declared.finish.Finish.{Finish}
 use Rattle.script_runner.specs.Calls.{IsGated, cut_calls}
 use Rattle.script_runner.specs.Anew.{MakesStep}
-use Rattle.script_runner.specs.Stops.{turns_at, committed_turns, PaysAt, PaysThrough, IsPaidStep, StepPays}
+use Rattle.script_runner.specs.Stops.{turns_at, committed_turns, most_together, PaysAt, PaysThrough, IsPaidStep, StepPays}
+use Rattle.script_runner.specs.Together.{AreDrops, IsEntryWith, ArePlaced, IsCountedTo, DuringTogether, AreTogether, TidiedTogether}
 use Rattle.script_runner.proofs.StopLaws.{entry_turns, turns_of, kept_turns, one_more_turns, paid_here, paid_least, pays_more, pays_join, shows_as_then}
 use Rattle.script_runner.proofs.Paying.{none_told}
-use Rattle.script_runner.proofs.Taking.{JobStays, OnlyItsFiles, own_file, ready_same, job_apart, job_tidied, ready_made}
+use Rattle.script_runner.proofs.Taking.{JobStays, OnlyItsFiles, own_file, ready_same, job_apart, entry_for, job_tidied}
 
 -- the fewest turns that may be shown where so many calls are paid for, of which the committed turns pay for some
 abbrev pub shown_for : ℕ → ℕ → ℕ
@@ -58,17 +59,6 @@ shown_least paid committed shown within = omega (arith, within)
 shown_pays : (paid committed : ℕ) → paid ≤ 256 * (committed + shown_for paid committed)
 shown_pays paid committed = omega arith
 
--- the front part of what is kept is kept
-kept_front : (front more : List ℕ) (x : File) → IsKept (front ++ more) x → IsKept front x
-kept_front front more x kept =
-    let long : length (front ++ more) ≡ length front + length more = length-append front more in
-    let sure = kept.sure in
-    record {
-      sure = omega (arith, long, sure);
-      same = sym (take-take (length front) (length (front ++ more)) x.bytes (omega (arith, long)))
-          ∙ ap (take (length front)) kept.same ∙ take_at front more (length front) refl;
-    }
-
 -- an image with the steps before
 pays_before : (job : Job) (k : ℕ) (r : FileNo → List ℕ) (paid committed shown most j : ℕ) → count_in r ≡ k → k < length job.steps
     → committed_turns k r ≡ committed → paid ≤ 256 * (committed + shown) → StopsCostAt k shown most j r → PaysAt job paid most j r
@@ -78,14 +68,43 @@ pays_before job k r paid committed shown most j count within turns less stop =
     let few = stop.few in
     record { no_fewer = omega (arith, is, turns, less, no_fewer); few = omega (arith, is, turns, less, no_fewer, few) }
 
--- an image with one more
-pays_after : (job : Job) (k : ℕ) (r : FileNo → List ℕ) (paid committed shown turns most j : ℕ) → count_in r ≡ k + 1
-    → committed_turns k r ≡ committed → turns_at k r ≡ turns → paid ≤ 256 * (committed + shown) → shown ≤ turns
+-- an image with more
+pays_after : (job : Job) (count : ℕ) (r : FileNo → List ℕ) (paid committed shown turns most j : ℕ) → count_in r ≡ count
+    → committed_turns count r ≡ committed + turns → paid ≤ 256 * (committed + shown) → shown ≤ turns
     → j ≤ most + 256 * (turns - shown) → PaysAt job paid most j r
-pays_after job k r paid committed shown turns most j count before here less fewer few =
-    let least = paid_least job (k + 1) r count in
-    let more = one_more_turns k r in
-    record { no_fewer = omega (arith, least, more, before, here, less, fewer); few = omega (arith, least, more, before, here, less, fewer, few) }
+pays_after job count r paid committed shown turns most j count_is all less fewer few =
+    let least = paid_least job count r count_is in
+    record { no_fewer = omega (arith, least, all, less, fewer); few = omega (arith, least, all, less, fewer, few) }
+
+-- the turns of an entry that is committed together with the first one: a drop has one
+turns_with : (steps : List Planned) (e : Entry) (j : ℕ) (x : Entry) → IsEntryWith steps e j x
+    → (j ≡ e.number → x.turns ≡ e.turns) × (e.number < j → x.turns ≡ 1)
+turns_with steps e j x (inl (same, is)) =
+    ((λ _. ap (λ (y : Entry). y.turns) is), (λ behind. absurd (omega (arith, same, behind))))
+turns_with steps e j x (inr (behind, (gone, drops_it, is))) =
+    ((λ same. absurd (omega (arith, same, behind))), (λ _. ap (λ (y : Entry). y.turns) is))
+
+-- so they show the turns of the first one and one for each drop
+turns_together : (steps : List Planned) (e : Entry) (k : ℕ) (r : FileNo → List ℕ) → e.number ≡ k → (more : ℕ)
+    → ArePlaced steps e (k + 1 + more) r → ((j : ℕ) (x : Entry) → j < k + 1 + more → IsEntryWith steps e j x → Fits x)
+    → committed_turns (k + 1 + more) r ≡ committed_turns k r + (e.turns + more)
+turns_together steps e k r number zero placed fits =
+    let found = placed k (omega (arith, number)) (omega arith) in
+    let turns : turns_at k r ≡ found.0.turns = entry_turns k r found.0 (fits k found.0 (omega arith) found.1) found.2 in
+    let own : found.0.turns ≡ e.turns = (turns_with steps e k found.0 found.1).0 (sym number) in
+    let one = one_more_turns k r in
+    let count : k + 1 ≡ k + 1 + zero = omega arith in
+    subst (λ n. committed_turns n r ≡ committed_turns k r + (e.turns + zero)) count (omega (arith, one, turns, own))
+turns_together steps e k r number (suc more) placed fits =
+    let before : committed_turns (k + 1 + more) r ≡ committed_turns k r + (e.turns + more) =
+    turns_together steps e k r number more (λ j from below. placed j from (omega (arith, below))) (λ j x below is. fits j x (omega (arith, below)) is) in
+    let found = placed (k + 1 + more) (omega (arith, number)) (omega arith) in
+    let turns : turns_at (k + 1 + more) r ≡ found.0.turns =
+    entry_turns (k + 1 + more) r found.0 (fits (k + 1 + more) found.0 (omega arith) found.1) found.2 in
+    let own : found.0.turns ≡ 1 = (turns_with steps e (k + 1 + more) found.0 found.1).1 (omega (arith, number)) in
+    let one = one_more_turns (k + 1 + more) r in
+    let count : k + 1 + more + 1 ≡ k + 1 + suc more = omega arith in
+    subst (λ n. committed_turns n r ≡ committed_turns k r + (e.turns + suc more)) count (omega (arith, before, turns, own, one))
 
 -- of a step of which nothing was gated no turns were shown, and few part numbers were taken; and one of which something
 -- was sweeps, and what pays for going on with it is great
@@ -123,9 +142,20 @@ module _ (job : Job) (k : ℕ) (few : AreFew job) (within : k < length job.steps
       (ready_counts k m.folder image (ready_same k (now old).folder m.folder same ready) is_image).count within
       (kept_turns k m.folder front size (subst (IsKept front) (sym (same catalogue refl)) kept) image is_image) less (stops j from to image is_image)
 
-  -- while it is committed
-  module _ (e : Entry) (number : e.number ≡ k) (fits : Fits e) (fewer : shown ≤ e.turns) where
-    points_stay : (old m : Moment) → DuringCommit e old m → SamePoints k old.folder m.folder
+  -- while it is committed, together with the drops behind it
+  module _ (plan : IsWellFormed job.n job.text job.steps) (e : Entry) (number : e.number ≡ k) (end : ℕ) (behind : k < end) (upto : end ≤ length job.steps)
+      (are : AreDrops job.steps (k + 1) end) (fits : IsEntryFor (step_at job k).step k e) (fewer : shown ≤ e.turns) where
+    -- the turns that are shown then
+    turns_to : (count : ℕ) (r : FileNo → List ℕ) → k < count → count ≤ end → ArePlaced job.steps e count r → committed_turns k r ≡ turns_of k front
+        → committed_turns count r ≡ turns_of k front + (e.turns + (count - (k + 1)))
+    turns_to count r more most placed before =
+        let sum : k + 1 + (count - (k + 1)) ≡ count = omega (arith, more) in
+        let all : committed_turns (k + 1 + (count - (k + 1))) r ≡ committed_turns k r + (e.turns + (count - (k + 1))) =
+        turns_together job.steps e k r number (count - (k + 1)) (subst (λ n. ArePlaced job.steps e n r) (sym sum) placed)
+        (λ j x below is. (entry_for job plan k end behind upto e number are fits j x (omega (arith, below, sum, most)) is).entry_is.fits) in
+        ap (λ n. committed_turns n r) (sym sum) ∙ all ∙ ap (λ n. n + (e.turns + (count - (k + 1)))) before
+
+    points_stay : (old m : Moment) → DuringTogether job.steps e end old m → SamePoints k old.folder m.folder
     points_stay old m during =
         let below = early job k few within in
         let of_points : IsOfStep (checkpoint_file k) = record { early = λ is. omega (arith, is, below) } in
@@ -137,47 +167,53 @@ module _ (job : Job) (k : ℕ) (few : AreFew job) (within : k < length job.steps
 
     committing_pays : (most least : ℕ) (mid new : World) → AreFiles (now mid).folder → IsKept front (file_in (now mid).folder catalogue)
         → ((image : Image) → IsImage (now mid).folder image → StopsCostAt k shown most mid.clock (bytes_in image))
-        → Ran (DuringCommit e (now mid)) mid new → new.clock ≤ mid.clock + 5 → new.clock ≤ least + 256 * (e.turns - shown)
-        → least ≤ most + 5 → PaysThrough job paid (most + 5) mid new
+        → Ran (DuringTogether job.steps e end (now mid)) mid new → new.clock ≤ mid.clock + most_together
+        → new.clock ≤ least + 2046 + 256 * (e.turns - shown)
+        → least + 2046 ≤ most + most_together → PaysThrough job paid (most + most_together) mid new
     committing_pays most least mid new files kept ended run short all lower j from to image is_image =
         let m : Moment = new.moment j in
-        let during : DuringCommit e (now mid) m = (run.moments.each j from to).holds in
+        let during : DuringTogether job.steps e end (now mid) m = (run.moments.each j from to).holds in
         let turns : committed_turns k (bytes_in image) ≡ turns_of k front =
         kept_turns k m.folder front size (during.kept front (omega (arith, size, number)) kept) image is_image in
-        elim (during.images image is_image) [
-          | inl before ↦
-              pays_before job k (bytes_in image) paid (turns_of k front) shown (most + 5) j (before.count ∙ number) within turns less (record {
+        let counted : IsCountedTo job.steps e end (bytes_in image) = during.images image is_image in
+        let count_is : count_in (bytes_in image) ≡ counted.count = counted.counts.count in
+        let low = counted.no_fewer in
+        let high = counted.no_more in
+        elim (cases_lt k counted.count) [
+          | inl more ↦
+              pays_after job counted.count (bytes_in image) paid (turns_of k front) shown (e.turns + (counted.count - (k + 1))) (most + most_together) j
+              count_is (turns_to counted.count (bytes_in image) more high counted.placed turns) less (omega (arith, fewer))
+              (omega (arith, to, all, lower, fewer))
+          | inr none ↦
+              let same : counted.count ≡ k = omega (arith, low, number, none) in
+              pays_before job k (bytes_in image) paid (turns_of k front) shown (most + most_together) j (count_is ∙ same) within turns less (record {
                 no_fewer = shows_as_then k (now mid).folder m.folder files (points_stay (now mid) m during) image is_image (λ n. shown ≤ n)
                     (λ first is_first. (ended first is_first).no_fewer);
                 few = shows_as_then k (now mid).folder m.folder files (points_stay (now mid) m during) image is_image
-                    (λ n. j ≤ most + 5 + 229 * (n - shown))
+                    (λ n. j ≤ most + most_together + 229 * (n - shown))
                     (λ first is_first. let few = (ended first is_first).few in omega (arith, few, to, short));
               })
-          | inr after ↦
-              pays_after job k (bytes_in image) paid (turns_of k front) shown e.turns (most + 5) j (after.counts.count ∙ ap (λ n. n + 1) number) turns
-              (entry_turns k (bytes_in image) e fits (subst (λ n. entry_at n (bytes_in image) ≡ entry_bytes e) number after.placed)) less fewer
-              (omega (arith, to, all, lower))
         ]
 
-    -- and while what it leaves behind is cut
-    tidying_pays : (most : ℕ) (s : Step) (mid : Folder) (last new : World) → IsTrue (list_all (λ i. nat_lt i k) (operands s)) → IsReady e.number mid
-        → IsKept front (file_in mid catalogue) → IsCommitted e mid (now last).folder → Ran (OnlyTidied s k e.parts (now last)) last new
-        → new.clock ≤ most + 256 * (e.turns - shown) → PaysThrough job paid most last new
-    tidying_pays most s mid last new earlier ready kept committed run all j from to image is_image =
+    -- and while what they leave behind is cut
+    tidying_pays : (most : ℕ) (last new : World) → IsKept front (file_in (now last).folder catalogue) → AreTogether job.steps e end (now last).folder
+        → Ran (TidiedTogether job.steps e end (now last)) last new
+        → new.clock ≤ most + 256 * (e.turns - shown) + 3 * (end - (k + 1)) → PaysThrough job paid most last new
+    tidying_pays most last new kept together run all j from to image is_image =
         let m : Moment = new.moment j in
-        let same : JobStays (now last).folder m.folder = job_tidied job k few within s e.parts (now last) m earlier (run.moments.each j from to).holds in
-        let ready_last : IsReady (k + 1) (now last).folder = subst (λ n. IsReady (n + 1) (now last).folder) number committed.ready in
-        let bytes : bytes_in image catalogue ≡ take (128 * e.number) (file_in mid catalogue).bytes ++ entry_bytes e =
-        only_image (take (128 * e.number) (file_in mid catalogue).bytes ++ entry_bytes e) (bytes_in image catalogue)
-        (subst (λ x. IsLeft x (bytes_in image catalogue)) (same catalogue refl ∙ committed.catalogue_is) (is_image catalogue)) in
-        let placed : entry_at e.number (bytes_in image) ≡ entry_bytes e =
-        entry_placed e.number (file_in mid catalogue).bytes (entry_bytes e) (bytes_in image) ready.covers (length_entry e fits) bytes in
-        let both : IsKept (front ++ entry_bytes e) (file_in m.folder catalogue) =
-        subst (IsKept (front ++ entry_bytes e)) (sym (same catalogue refl)) (committed.kept front (size ∙ ap (λ n. 128 * n) (sym number)) kept) in
-        pays_after job k (bytes_in image) paid (turns_of k front) shown e.turns most j
-        (ready_counts (k + 1) m.folder image (ready_same (k + 1) (now last).folder m.folder same ready_last) is_image).count
-        (kept_turns k m.folder front size (kept_front front (entry_bytes e) (file_in m.folder catalogue) both) image is_image)
-        (entry_turns k (bytes_in image) e fits (subst (λ n. entry_at n (bytes_in image) ≡ entry_bytes e) number placed)) less fewer (omega (arith, to, all))
+        let same : JobStays (now last).folder m.folder =
+        job_tidied job plan k end behind upto e number are (now last) m (run.moments.each j from to).holds in
+        let bytes : bytes_in image catalogue ≡ (file_in (now last).folder catalogue).bytes =
+        only_image (file_in (now last).folder catalogue).bytes (bytes_in image catalogue)
+        (subst (λ x. IsLeft x (bytes_in image catalogue)) (same catalogue refl ∙ together.sure) (is_image catalogue)) in
+        let placed : ArePlaced job.steps e end (bytes_in image) =
+        λ i least below. let found = together.placed i least below in
+        (found.0, found.1, ap (λ xs. take 128 (drop (128 * i) xs)) bytes ∙ found.2) in
+        let turns : committed_turns k (bytes_in image) ≡ turns_of k front =
+        kept_turns k m.folder front size (subst (IsKept front) (sym (same catalogue refl)) kept) image is_image in
+        pays_after job end (bytes_in image) paid (turns_of k front) shown (e.turns + (end - (k + 1))) most j
+        (ready_counts end m.folder image (ready_same end (now last).folder m.folder same together.ready) is_image).count
+        (turns_to end (bytes_in image) behind (omega arith) placed turns) less (omega (arith, fewer)) (omega (arith, to, all, fewer))
 
 module _ {S : Type 0} (tells : S → Bool) (world : S → World) (counts : S → Faults) (law : (s : S) → IsTrue (tells s) → AreFiles (now (world s)).folder)
     (job : Job) (k : ℕ) (plan : IsWellFormed job.n job.text job.steps) (within : k < length job.steps) (p : Planned) (p_is : p ≡ step_at job k)
@@ -246,7 +282,7 @@ module _ {S : Type 0} (tells : S → Bool) (world : S → World) (counts : S →
       is.holds.entries.kept ran_so stops_so
 
   abbrev bound : ℕ
-  bound = (world old).clock + (run_stop + 5 + rest)
+  bound = (world old).clock + (run_stop + most_together + rest)
 
   loosely : (most : ℕ) (first last : World) → most ≤ bound → PaysThrough job paid most first last → PaysThrough job paid bound first last
   loosely most first last fewer pays = pays_more job paid paid most bound first last (omega arith) (omega (arith, fewer)) pays
@@ -256,12 +292,16 @@ module _ {S : Type 0} (tells : S → Bool) (world : S → World) (counts : S →
   stopped_pays finish = record { stops = loosely most (world old) (world s) (omega arith) made_pays; ends = tt }
 
   -- it was made
-  module _ (e : Entry) (ok : result ≡ Ok e) where
+  module _ (e : Entry) (ok : result ≡ Ok e) (end : ℕ) (behind : k < end) (few_drops : end ≤ k + 1024) (upto : end ≤ length job.steps)
+      (drops_are : AreDrops job.steps (k + 1) end) where
     runs_ok : MakesStep tells world counts job.n job.text k p old s (Ok e)
     runs_ok = subst (MakesStep tells world counts job.n job.text k p old s) ok runs
 
     number : e.number ≡ k
     number = runs_ok.fits.number_is
+
+    fits : IsEntryFor (step_at job k).step k e
+    fits = subst (λ x. IsEntryFor x k e) (sym place_is) runs_ok.fits
 
     some : 1 ≤ e.turns
     some = runs_ok.fits.entry_is.layout.worked
@@ -280,12 +320,14 @@ module _ {S : Type 0} (tells : S → Bool) (world : S → World) (counts : S →
           omega (arith, paid_for),
         )
 
+    -- what making it, a commit of it alone and cutting what it leaves behind cost
+    alone : (cuts : ℕ) → cuts ≤ cut_calls gated p.step e.parts → (world s).clock + 5 + cuts ≤ (world old).clock + rest + 256 * (e.turns - shown)
+    alone cuts within_cuts =
+        all_calls gated p.step e.turns shown rest e.parts (world old).clock (world s).clock ((world s).clock + 5) ((world s).clock + 5 + cuts) ended.0 some
+        (begun gated is.gated) ended.1 (omega arith) (omega (arith, within_cuts))
+
     ended_at : (image : Image) → IsImage (now (world s)).folder image → StopsCostAt k shown most (world s).clock (bytes_in image)
     ended_at image is_image = stops_so (world s).clock ran_so.moments.later (omega arith) image is_image
-
-    ready_s : IsReady e.number (now (world s)).folder
-    ready_s = subst (λ n. IsReady n (now (world s)).folder) (sym number)
-        (ready_made job k plan.few_steps within k (world old) (world s) ran_so is.holds.ready)
 
     kept_s : IsKept front (file_in (now (world s)).folder catalogue)
     kept_s = subst (IsKept front)
@@ -295,33 +337,39 @@ module _ {S : Type 0} (tells : S → Bool) (world : S → World) (counts : S →
     abbrev least : ℕ
     least = (world old).clock + rest
 
-    committed_pays : (t : S) → Ran (DuringCommit e (now (world s))) (world s) (world t) → (world t).clock ≤ (world s).clock + 5
-        → PaysThrough job paid bound (world old) (world t)
+    committed_pays : (t : S) → Ran (DuringTogether job.steps e end (now (world s))) (world s) (world t)
+        → (world t).clock ≤ (world s).clock + (2 * (end - e.number) + 3) → PaysThrough job paid bound (world old) (world t)
     committed_pays t commits short =
+        let one = alone 0 (omega arith) in
         pays_join job paid bound (world old) (world s) (world t) commits.moments.past (loosely most (world old) (world s) (omega arith) made_pays)
-        (loosely (most + 5) (world s) (world t) (omega arith)
-        (committing_pays job k plan.few_steps within front is.holds.entries.size paid shown less e number runs_ok.fits.entry_is.fits ended.0 most least
-        (world s) (world t) (law s tells_s) kept_s ended_at commits short
-        (all_calls gated p.step e.turns shown rest e.parts (world old).clock (world s).clock (world t).clock (world t).clock ended.0 some
-        (begun gated is.gated) ended.1 short (omega arith)) (omega arith)))
+        (loosely (most + most_together) (world s) (world t) (omega arith)
+        (committing_pays job k plan.few_steps within front is.holds.entries.size paid shown less plan e number end behind upto drops_are fits ended.0 most least
+        (world s) (world t) (law s tells_s) kept_s ended_at commits (omega (arith, short, number, few_drops))
+        (omega (arith, short, number, few_drops, behind, one)) (omega arith)))
 
     -- its commit failed
-    pub commit_stopped : (finish : Finish) (t : S) → Ran (DuringCommit e (now (world s))) (world s) (world t) → (world t).clock ≤ (world s).clock + 5
-        → StepPays job paid rest (Err finish) (world old) (world t)
+    pub commit_stopped : (finish : Finish) (t : S) → Ran (DuringTogether job.steps e end (now (world s))) (world s) (world t)
+        → (world t).clock ≤ (world s).clock + (2 * (end - e.number) + 3) → StepPays job paid rest (Err finish) (world old) (world t)
     commit_stopped finish t commits short = record { stops = committed_pays t commits short; ends = tt }
 
-    -- it was committed, and what it leaves behind was cut, or a part of that
-    module _ (t u : S) (commits : Ran (DuringCommit e (now (world s))) (world s) (world t)) (short : (world t).clock ≤ (world s).clock + 5)
-        (committed : IsCommitted e (now (world s)).folder (now (world t)).folder)
-        (cuts : Ran (OnlyTidied p.step e.number e.parts (now (world t))) (world t) (world u))
-        (tidied : (world u).clock ≤ (world t).clock + cut_calls gated p.step e.parts) where
+    -- it was committed, and what they leave behind was cut, or a part of that
+    module _ (t u : S) (commits : Ran (DuringTogether job.steps e end (now (world s))) (world s) (world t))
+        (short : (world t).clock ≤ (world s).clock + (2 * (end - e.number) + 3)) (together : AreTogether job.steps e end (now (world t)).folder)
+        (cuts : Ran (TidiedTogether job.steps e end (now (world t))) (world t) (world u))
+        (tidied : (world u).clock ≤ (world t).clock + (cut_calls gated (step_at job e.number).step e.parts + (end - (e.number + 1)))) where
+      kept_t : IsKept front (file_in (now (world t)).folder catalogue)
+      kept_t =
+          let size = is.holds.entries.size in
+          (ran_end (world s) (world t) (DuringTogether job.steps e end (now (world s))) commits).kept front (omega (arith, size, number)) kept_s
+
       cut_pays : PaysThrough job paid least (world t) (world u)
       cut_pays =
-          tidying_pays job k plan.few_steps within front is.holds.entries.size paid shown less e number runs_ok.fits.entry_is.fits ended.0 least p.step
-          (now (world s)).folder (world t) (world u) earlier ready_s kept_s committed
-          (subst (λ n. Ran (OnlyTidied p.step n e.parts (now (world t))) (world t) (world u)) number cuts)
-          (all_calls gated p.step e.turns shown rest e.parts (world old).clock (world s).clock (world t).clock (world u).clock ended.0 some
-          (begun gated is.gated) ended.1 short tidied)
+          let cut : (world u).clock ≤ (world t).clock + (cut_calls gated p.step e.parts + (end - (e.number + 1))) =
+          subst (λ x. (world u).clock ≤ (world t).clock + (cut_calls gated x e.parts + (end - (e.number + 1))))
+          (ap (λ i. (step_at job i).step) number ∙ place_is) tidied in
+          let one = alone (cut_calls gated p.step e.parts) (omega arith) in
+          tidying_pays job k plan.few_steps within front is.holds.entries.size paid shown less plan e number end behind upto drops_are fits ended.0 least
+          (world t) (world u) kept_t together cuts (omega (arith, one, short, cut, number, behind))
 
       all_pays : PaysThrough job paid bound (world old) (world u)
       all_pays = pays_join job paid bound (world old) (world t) (world u) cuts.moments.past (committed_pays t commits short)
@@ -330,8 +378,8 @@ module _ {S : Type 0} (tells : S → Bool) (world : S → World) (counts : S →
       pub tidy_stopped : (finish : Finish) → StepPays job paid rest (Err finish) (world old) (world u)
       tidy_stopped finish = record { stops = all_pays; ends = tt }
 
-      pub took_pays : StepPays job paid rest (Ok e) (world old) (world u)
-      took_pays = record {
+      pub took_pays : (d : Entry) → StepPays job paid rest (Ok d) (world old) (world u)
+      took_pays d = record {
         stops = all_pays;
         ends = λ image is_image. cut_pays (world u).clock cuts.moments.later (omega arith) image is_image;
       }

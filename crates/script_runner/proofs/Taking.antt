@@ -1,7 +1,9 @@
--- One step of a run, from its files to its commit and what it leaves behind.
-use Rattle.std.proofs.Common.{◌≡◌, ◌∙◌, ℕ, ◌+◌, ◌-◌, ◌*◌, ◌/◌, ◌^◌, ◌<◌, ◌≤◌, ◌⊎◌, Bool, true, false, cond, if◌then◌else◌, nat_lt, min, [], length, take, get_or, refl, sym, ap, subst, inl, inr, arith}
-use Rattle.std.specs.Prelude.{IsTrue, Result, Ok, Err}
+-- Steps of a run that are committed together, from the files of the first to their commit and what they leave behind.
+use Rattle.std.proofs.Common.{◌≡◌, ◌≢◌, ◌∙◌, ℕ, ◌+◌, ◌-◌, ◌*◌, ◌/◌, ◌^◌, ◌<◌, ◌≤◌, ◌⊎◌, Bool, true, false, cond, if◌then◌else◌, nat_lt, min, List, [], length, take, drop, get_or, refl, sym, ap, subst, inl, inr, arith}
+use Rattle.std.specs.Prelude.{IsTrue, Result, Ok, Err, sum_by, zero, suc}
 use Rattle.std.specs.List.{list_all}
+use Rattle.std.proofs.lemmas.List.{take_more}
+use Rattle.std.proofs.lemmas.List.Sums.{sum_by_push}
 use Rattle.bool_tables.specs.declared.steps.Step.{Step}
 use Rattle.bool_tables.specs.declared.steps.Step.TheVariants.{Const, Var, Pair, Ite, Quantify, Restrict, Drop, Same, Leq, Eval, Size}
 use Rattle.bool_tables.specs.declared.steps.Planned.{Planned}
@@ -23,33 +25,35 @@ use Rattle.catalogue.specs.declared.layout.Entry.{Entry}
 use Rattle.catalogue.specs.Files.{job_step, job_gate, catalogue, step_gate}
 use Rattle.catalogue.specs.Counts.{HasCount, present, count_in, entry_at}
 use Rattle.catalogue.specs.Entries.{entry_bytes}
-use Rattle.catalogue.specs.Commits.{IsReady, DuringCommit, IsCommitted}
-use Rattle.catalogue.proofs.Counted.{ready_counts, entry_placed}
-use Rattle.catalogue.proofs.Places.{length_entry}
+use Rattle.catalogue.specs.Commits.{IsReady}
+use Rattle.catalogue.proofs.Counted.{ready_counts}
 use Rattle.step_work.specs.Tuples.{joins as joins_pieces, sweeps}
 use Rattle.sound_image.specs.Files.{node_file}
 use Rattle.step_work.specs.Plans.{no_step}
 use Rattle.sound_image.specs.Jobs.{Job, step_at}
 use Rattle.sound_image.specs.Entries.{IsEntryOfStep, kind_of, work_of}
 use Rattle.sound_image.specs.Holds.{Holds, IsMade, AreResumable, NoneGated}
-use Rattle.sound_image.specs.Steps.{IsOwnFile, OnlyOwnFiles, IsCutBy, IsTidied, parts_end}
-use Rattle.sound_image.proofs.Numbers.{IsOfStep, node_of_step, not_catalogue, not_step_gate}
+use Rattle.sound_image.specs.Steps.{IsOwnFile, OnlyOwnFiles, IsCutBy, parts_end}
+use Rattle.sound_image.proofs.Numbers.{IsOfStep, not_catalogue, not_step_gate}
 use Rattle.sound_image.proofs.Resuming.{AreFew, RestsOnSteps}
-use Rattle.sound_image.proofs.StepLaws.{holds_while_made, holds_while_tidied, sound_while_committed, none_after_commit, holds_after_commit}
+use Rattle.sound_image.proofs.StepLaws.{holds_while_made}
 use Rattle.step_engine.specs.Simple.{IsStepOf}
-use Rattle.step_engine.specs.OneFile.{ChangesFile, OnlyMade, OnlyTidied}
-use Rattle.step_engine.specs.StepEntries.{IsEntryFor}
+use Rattle.step_engine.specs.OneFile.{ChangesFile, OnlyMade}
+use Rattle.step_engine.specs.StepEntries.{nameless_entry, one_turn, IsEntryFor}
 use Rattle.step_engine.specs.StepFaults.{IsKindFault, IsStepFault, IsSoundFault, IsOfKind}
 use Rattle.step_engine.specs.Running.{IsReadyFor, PaysRest}
 use Rattle.step_engine.specs.LeftBehind.{most_cut}
-use Rattle.step_engine.proofs.EntryLaws.{only_below, operand_kind}
+use Rattle.step_engine.proofs.EntryLaws.{only_below, operand_kind, for_drop}
+use Rattle.step_engine.proofs.PlanLaws.{may_run}
 use Rattle.step_engine.proofs.Gated.{gated_point}
 use Rattle.script_runner.specs.declared.finish.Finish.{Finish}
 use Rattle.script_runner.specs.declared.finish.Finish.TheVariants.{FolderFault, RunsSpent}
-use Rattle.script_runner.specs.Calls.{step_calls, cut_calls, IsGated, IsCounted, PaysStep}
+use Rattle.script_runner.specs.Calls.{step_calls, calls_before, cut_calls, IsGated, IsCounted, PaysStep}
 use Rattle.script_runner.specs.Running.{OthersAre, AreEmptied, IsEntryDamage, IsSweepDamage, IsPointDamage, IsMetDamage, RefusesFolder, IsStop, stood_after}
-use Rattle.script_runner.specs.StepRuns.{CountsAbout, IsTaking, HasEntry, HasSteps, HoldsStep, NamesMet, NamesSpent, StaysEmpty, KeepsDiagrams, KeepsLater, TakesStep, stopped_by}
-use Rattle.script_runner.proofs.RunSteps.{held_steps, present_count}
+use Rattle.script_runner.specs.StepRuns.{CountsAbout, IsTaking, HasEntry, HasSteps, HoldsSteps, NamesMet, NamesSpent, NoneDrops, StaysEmpty, KeepsDiagrams, KeepsLater, TakesSteps, stopped_by}
+use Rattle.script_runner.specs.Together.{AreDrops, IsEntryWith, IsCountedTo, DuringTogether, AreTogether, IsCutTogether, TidiedTogether}
+use Rattle.script_runner.proofs.RunSteps.{drop_below, held_steps, present_count}
+use Rattle.script_runner.proofs.TogetherLaws.{entry_with, none_together, sound_together, holds_together, holds_while_cut}
 use Rattle.script_runner.proofs.Resting.{rests_on_steps}
 use Rattle.script_runner.specs.Anew.{BeganAnew, LackedPoint, IsFound, MakesStep}
 use Rattle.script_runner.proofs.Paying.{none_told}
@@ -111,163 +115,70 @@ cut_file s k next f earlier (inl (gone, dropped, is)) =
 cut_file s k next f earlier (inr (swept, own)) = let steps : f.step ≡ k = own.step_is in omega (arith, steps)
 
 -- each image of a folder that is ready has its count
-counts_about : (step count : ℕ) (folder : Folder) → step ≤ count → count ≤ step + 1 → IsReady count folder → (image : Image) → IsImage folder image
-    → CountsAbout step (bytes_in image)
-counts_about step count folder low high ready image is_image =
+counts_about : (step until count : ℕ) (folder : Folder) → step ≤ count → count ≤ until → IsReady count folder → (image : Image) → IsImage folder image
+    → CountsAbout step until (bytes_in image)
+counts_about step until count folder low high ready image is_image =
     let has : HasCount count (bytes_in image) = ready_counts count folder image ready is_image in
     let same : count_in (bytes_in image) ≡ count = has.count in
     record { stored = has.stored; no_fewer = omega (arith, same, low); no_more = omega (arith, same, high) }
 
 -- a step that has only begun
-pub taking_first : (steps step : ℕ) (folder : Folder) → IsReady step folder → IsTaking steps step folder folder
-taking_first steps step folder ready = record {
+pub taking_first : (steps step until : ℕ) (folder : Folder) → step ≤ until → IsReady step folder → IsTaking steps step until folder folder
+taking_first steps step until folder within ready = record {
   others = λ f apart. refl;
-  counts = counts_about step step folder (omega arith) (omega arith) ready;
+  counts = counts_about step until step folder (omega arith) within ready;
   kept = λ front short kept. kept;
   reads = refl;
 }
 
 -- the job's files stay while a step is taken
-pub taking_same : (steps step count : ℕ) (old before after : Folder) → step ≤ count → count ≤ step + 1 → IsReady count before → JobStays before after
-    → OthersAre steps before after → IsTaking steps step old before → IsTaking steps step old after
-taking_same steps step count old before after low high ready same others so_far = record {
+pub taking_same : (steps step until count : ℕ) (old before after : Folder) → step ≤ count → count ≤ until → IsReady count before → JobStays before after
+    → OthersAre steps before after → IsTaking steps step until old before → IsTaking steps step until old after
+taking_same steps step until count old before after low high ready same others so_far = record {
   others = λ f apart. others f apart ∙ so_far.others f apart;
-  counts = counts_about step count after low high (ready_same count before after same ready);
+  counts = counts_about step until count after low high (ready_same count before after same ready);
   kept = λ front short kept. subst (IsKept front) (sym (same catalogue refl)) (so_far.kept front short kept);
   reads = ap (λ (x : File). take (128 * step) x.bytes) (same catalogue refl) ∙ so_far.reads;
 }
 
--- while the step is committed
-taking_commits : (steps step : ℕ) (e : Entry) (old : Folder) (mid m : Moment) → e.number ≡ step → IsTaking steps step old mid.folder → DuringCommit e mid m
-    → IsTaking steps step old m.folder
-taking_commits steps step e old mid m number so_far during = record {
+-- while they are committed
+taking_commits : (steps : ℕ) (plan : List Planned) (step end until : ℕ) (e : Entry) (old : Folder) (mid m : Moment) → e.number ≡ step → end ≤ until
+    → IsTaking steps step until old mid.folder → DuringTogether plan e end mid m → IsTaking steps step until old m.folder
+taking_commits steps plan step end until e old mid m number within so_far during = record {
   others = λ f apart.
       during.others f (λ same. apart (inr (ap (λ (q : FileNo). q.step) same))) (λ same. apart (inr (ap (λ (q : FileNo). q.step) same))) ∙ so_far.others f apart;
-  counts = λ image is_image. elim (during.images image is_image) [
-    | inl before ↦ about image (e.number) (omega arith) (omega arith) before
-    | inr after ↦ about image (e.number + 1) (omega arith) (omega arith) after.counts
-  ];
+  counts = λ image is_image.
+      let counted : IsCountedTo plan e end (bytes_in image) = during.images image is_image in
+      let same : count_in (bytes_in image) ≡ counted.count = counted.counts.count in
+      let low = counted.no_fewer in
+      let high = counted.no_more in
+      record { stored = counted.counts.stored; no_fewer = omega (arith, same, low, number); no_more = omega (arith, same, high, within) };
   kept = λ front short kept. during.kept front (subst (λ k. length front ≤ 128 * k) (sym number) short) (so_far.kept front short kept);
   reads = subst (λ k. take (128 * k) (file_in m.folder catalogue).bytes ≡ take (128 * k) (file_in mid.folder catalogue).bytes) number during.reads ∙ so_far.reads;
 }
-  where
-    about : (image : Image) (count : ℕ) → e.number ≤ count → count ≤ e.number + 1 → HasCount count (bytes_in image) → CountsAbout step (bytes_in image)
-    about image count low high has =
-        let same : count_in (bytes_in image) ≡ count = has.count in
-        record { stored = has.stored; no_fewer = omega (arith, same, low, number); no_more = omega (arith, same, high, number) }
+
+-- steps from that one on are taken at each moment
+abbrev pub Takes : Job → ℕ → ℕ → World → Moment → Type 0
+Takes job k until old m = IsTaking (length job.steps) k until (now old).folder m.folder
 
 module _ (job : Job) (k : ℕ) (few : AreFew job) (within : k < length job.steps) where
   early : k < job_step
   early = omega (arith, few, within)
 
-  abbrev Takes : World → Moment → Type 0
-  Takes old m = IsTaking (length job.steps) k (now old).folder m.folder
-
   own_within : (f : FileNo) → IsOwnFile k f → f.step < length job.steps
   own_within f own = let same : f.step ≡ k = own in omega (arith, same, within)
 
-  pub run_made : (old new : World) → IsReady k (now old).folder → Ran (OnlyItsFiles k (now old)) old new → Ran (Takes old) old new
-  run_made old new ready run = ran_weakens old new (OnlyItsFiles k (now old)) (Takes old) (λ m only.
-      taking_same (length job.steps) k k (now old).folder (now old).folder m.folder (omega arith) (omega arith) ready
+  pub run_made : (until : ℕ) (old new : World) → k ≤ until → IsReady k (now old).folder → Ran (OnlyItsFiles k (now old)) old new → Ran (Takes job k until old) old new
+  run_made until old new upto ready run = ran_weakens old new (OnlyItsFiles k (now old)) (Takes job k until old) (λ m only.
+      taking_same (length job.steps) k until k (now old).folder (now old).folder m.folder (omega arith) upto ready
       (λ f job_step. only f (job_apart k f early job_step))
       (λ f apart. only f (λ own. apart (inl (own_within f own))))
-      (taking_first (length job.steps) k (now old).folder ready)) run
-
-  pub run_committed : (e : Entry) (old mid new : World) → e.number ≡ k → Ran (Takes old) old mid → Ran (DuringCommit e (now mid)) mid new → Ran (Takes old) old new
-  run_committed e old mid new number first second = ran_joins old mid new (Takes old) first
-      (ran_weakens mid new (DuringCommit e (now mid)) (Takes old)
-      (λ m during. taking_commits (length job.steps) k e (now old).folder (now mid) m number (ran_end old mid (Takes old) first) during) second)
-
-  cut_within : (s : Step) (next : ℕ) (f : FileNo) → IsTrue (list_all (λ j. nat_lt j k) (operands s)) → IsCutBy s k next f → f.step < length job.steps
-  cut_within s next f earlier cut = let low : f.step ≤ k = cut_file s k next f earlier cut in omega (arith, low, within)
-
-  -- the job's files stay while what a step leaves behind is cut
-  pub job_tidied : (s : Step) (next : ℕ) (last m : Moment) → IsTrue (list_all (λ j. nat_lt j k) (operands s)) → OnlyTidied s k next last m → JobStays last.folder m.folder
-  job_tidied s next last m earlier tidied f job_step =
-      tidied.only f (λ cut. let own : f.step < length job.steps = cut_within s next f earlier cut in omega (arith, own, job_step, few))
-
-  pub run_tidied : (s : Step) (next : ℕ) (old last new : World) → IsTrue (list_all (λ j. nat_lt j k) (operands s)) → IsReady (k + 1) (now last).folder
-      → Ran (Takes old) old last → Ran (OnlyTidied s k next (now last)) last new → Ran (Takes old) old new
-  run_tidied s next old last new earlier ready first second = ran_joins old last new (Takes old) first
-      (ran_weakens last new (OnlyTidied s k next (now last)) (Takes old) (λ m tidied.
-      taking_same (length job.steps) k (k + 1) (now old).folder (now last).folder m.folder (omega arith) (omega arith) ready (job_tidied s next (now last) m earlier tidied)
-      (λ f apart. tidied.only f (λ cut. apart (inl (cut_within s next f earlier cut)))) (ran_end old last (Takes old) first)) second)
-
-  -- the folder is as ready once what a step leaves behind is cut
-  pub ready_tidied : (s : Step) (next count : ℕ) (last new : World) → IsTrue (list_all (λ j. nat_lt j k) (operands s)) → Ran (OnlyTidied s k next (now last)) last new
-      → IsReady count (now last).folder → IsReady count (now new).folder
-  ready_tidied s next count last new earlier tidies ready =
-      ready_same count (now last).folder (now new).folder (job_tidied s next (now last) (now new) earlier (ran_end last new (OnlyTidied s k next (now last)) tidies)) ready
+      (taking_first (length job.steps) k until (now old).folder upto ready)) run
 
   -- and while a step's files are made
   pub ready_made : (count : ℕ) (old new : World) → Ran (OnlyItsFiles k (now old)) old new → IsReady count (now old).folder → IsReady count (now new).folder
   ready_made count old new made ready = ready_same count (now old).folder (now new).folder
       (λ f job_step. ran_end old new (OnlyItsFiles k (now old)) made f (job_apart k f early job_step)) ready
-
-  -- the entry of the step stands at its place, once it is committed and tidied up
-  pub entry_made : (s : Step) (e : Entry) (mid last new : World) → (get_or job.steps k no_step).step ≡ s → IsTrue (list_all (λ j. nat_lt j k) (operands s)) → IsEntryFor s k e
-      → IsReady e.number (now mid).folder → IsCommitted e (now mid).folder (now last).folder → Ran (OnlyTidied s k e.parts (now last)) last new
-      → HasEntry job.steps k e (present (now new).folder)
-  entry_made s e mid last new step earlier is ready committed tidies = record {
-    stands = record {
-      entry = is.entry_is;
-      number = is.number_is;
-      bytes = subst (λ j. entry_at j (present (now new).folder) ≡ entry_bytes e) is.number_is
-          (entry_placed e.number (file_in (now mid).folder catalogue).bytes (entry_bytes e) (present (now new).folder) ready.covers (length_entry e is.entry_is.fits)
-          (ap (λ (x : File). x.bytes) (job_tidied s e.parts (now last) (now new) earlier (ran_end last new (OnlyTidied s k e.parts (now last)) tidies) catalogue refl ∙ committed.catalogue_is)));
-    };
-    kind_is = is.kind_is ∙ ap kind_of (sym step);
-  }
-
-  -- what the step drops is empty
-  pub emptied_here : (s : Step) (folder : Folder) → (get_or job.steps k no_step).step ≡ s
-      → ((gone : ℕ) → s ≡ Drop gone → (file_in folder (node_file gone)).bytes ≡ []) → AreEmptied job.steps k (k + 1) folder
-  emptied_here s folder step empty j from until gone drops_it =
-      let same : j ≡ k = omega (arith, from, until) in
-      empty gone (sym step ∙ ap (λ i. (get_or job.steps i no_step).step) (sym same) ∙ drops_it)
-
-  -- an earlier diagram's file stays until the step is tidied up
-  until_tidied : (e : Entry) (old mid last : World) → Ran (OnlyItsFiles k (now old)) old mid
-      → Ran (DuringCommit e (now mid)) mid last → (j : ℕ) → j < k
-      → file_in (now last).folder (node_file j) ≡ file_in (now old).folder (node_file j)
-  until_tidied e old mid last made commits j below =
-      let of_step : IsOfStep (node_file j) = node_of_step j (omega (arith, below, early)) in
-      (ran_end mid last (DuringCommit e (now mid)) commits).others (node_file j)
-      (not_catalogue (node_file j) of_step) (not_step_gate (node_file j) of_step)
-      ∙ ran_end old mid (OnlyItsFiles k (now old)) made (node_file j)
-      (λ own. let same : j ≡ k = own in omega (arith, same, below))
-
-  -- where it was empty it is empty after the step
-  pub still_empty : (s : Step) (e : Entry) (old mid last new : World) → Ran (OnlyItsFiles k (now old)) old mid → Ran (DuringCommit e (now mid)) mid last
-      → Ran (OnlyTidied s k e.parts (now last)) last new → (j : ℕ) → j < k → StaysEmpty (node_file j) (now old).folder (now new).folder
-  still_empty s e old mid last new made commits tidies j below before =
-      (ran_end last new (OnlyTidied s k e.parts (now last)) tidies).stays (node_file j)
-      (ap (λ (x : File). x.bytes) (until_tidied e old mid last made commits j below) ∙ before)
-
-  -- and unless the step drops it, it is as it was
-  pub keeps_diagrams : (s : Step) (e : Entry) (old mid last new : World) → (get_or job.steps k no_step).step ≡ s
-      → Ran (OnlyItsFiles k (now old)) old mid → Ran (DuringCommit e (now mid)) mid last
-      → Ran (OnlyTidied s k e.parts (now last)) last new → KeepsDiagrams job.steps k (k + 1) (now old).folder (now new).folder
-  keeps_diagrams s e old mid last new step made commits tidies j below none =
-      (ran_end last new (OnlyTidied s k e.parts (now last)) tidies).only (node_file j) not_cut
-      ∙ until_tidied e old mid last made commits j below
-    where
-      not_cut : ¬ (IsCutBy s k e.parts (node_file j))
-      not_cut (inl (gone, dropped, is)) =
-          let same : gone ≡ j = ap (λ (q : FileNo). q.step) (sym is) in
-          none k (omega arith) (omega arith) (step ∙ dropping gone s dropped ∙ ap Drop same)
-      not_cut (inr (swept, behind)) = let same : j ≡ k = behind.step_is in omega (arith, same, below)
-
-  -- and the files of the steps behind it stay
-  pub keeps_later : (s : Step) (e : Entry) (old mid last new : World) → IsTrue (list_all (λ j. nat_lt j k) (operands s))
-      → Ran (OnlyItsFiles k (now old)) old mid → Ran (DuringCommit e (now mid)) mid last
-      → Ran (OnlyTidied s k e.parts (now last)) last new → KeepsLater (k + 1) (now old).folder (now new).folder
-  keeps_later s e old mid last new earlier made commits tidies f from before =
-      let of_step : IsOfStep f = record { early = λ is. omega (arith, is, before) } in
-      (ran_end last new (OnlyTidied s k e.parts (now last)) tidies).only f
-      (λ cut. let low : f.step ≤ k = cut_file s k e.parts f earlier cut in omega (arith, low, from))
-      ∙ (ran_end mid last (DuringCommit e (now mid)) commits).others f (not_catalogue f of_step) (not_step_gate f of_step)
-      ∙ ran_end old mid (OnlyItsFiles k (now old)) made f (λ own. let same : f.step ≡ k = own in omega (arith, same, from))
 
   -- files of other steps are as they were at each moment of it
   at_moment : (old new : World) → Ran (OnlyItsFiles k (now old)) old new → (j : ℕ) → old.clock ≤ j → j ≤ new.clock
@@ -415,31 +326,9 @@ module _ (job : Job) (k : ℕ) (few : AreFew job) (rests : RestsOnSteps job) (wi
   holds_made old new holds run resumes = holds_while_made job k (now old).folder (now new).folder few within holds
       (ran_end old new (OnlyItsFiles k (now old)) run) (at_end old new (CanGoOn job k) resumes)
 
-  images_committed : (e : Entry) (mid new : World) → AreFiles (now mid).folder → Holds job k (now mid).folder → IsMade job k (now mid).folder → IsEntryOfStep job k e
-      → Ran (DuringCommit e (now mid)) mid new → Throughout mid new (AllHave job k)
-  images_committed e mid new files holds made entry run = weakens mid new (Quiet (now mid).said (DuringCommit e (now mid))) (AllHave job k) (λ m quiet image is_image.
-      let safe = sound_while_committed job k e (now mid) m image files few rests within holds made entry quiet.holds is_image in
-      record { sound = safe.0; counts = safe.1; stored = safe.2 }) run.moments
-
-  -- what a step leaves behind is cut
-  holds_tidied : (s : Step) (next : ℕ) (before after : Folder) → (step_at job k).step ≡ s → IsTrue (list_all (λ j. nat_lt j k) (operands s)) → Holds job (k + 1) before
-      → NoneGated job (k + 1) before → IsTidied s k next before after → Holds job (k + 1) after
-  holds_tidied s next before after step earlier holds none tidied = holds_while_tidied job k next before after few within holds none
-      (λ gone dropped.
-      let below : gone < k = dropped_below k gone s (subst (λ x. IsTrue (drops gone x)) step dropped) earlier in
-      omega (arith, below, within))
-      (subst (λ x. IsTidied x k next before after) (sym step) tidied)
-
-  images_tidied : (s : Step) (next : ℕ) (last new : World) → (step_at job k).step ≡ s → IsTrue (list_all (λ j. nat_lt j k) (operands s)) → Holds job (k + 1) (now last).folder
-      → NoneGated job (k + 1) (now last).folder → Ran (OnlyTidied s k next (now last)) last new → Throughout last new (AllHave job k)
-  images_tidied s next last new step earlier holds none run = weakens last new (Quiet (now last).said (OnlyTidied s k next (now last))) (AllHave job k) (λ m quiet image is_image.
-      let has = held_steps job (k + 1) m.folder image (holds_tidied s next (now last).folder m.folder step earlier holds none quiet.holds) is_image in
-      let counts = has.counts in
-      record { sound = has.sound; counts = omega (arith, counts); stored = has.stored }) run.moments
-
   -- the step couldn't be run
   pub stopped_making : (fault : SortFault) (old new : World) → Holds job k (now old).folder → Ran (OnlyItsFiles k (now old)) old new → Throughout old new (CanGoOn job k)
-      → IsSoundFault (step_at job k).step (work_of job (step_at job k).step) fault → HoldsStep job k (Err (stopped_by k fault)) old new
+      → IsSoundFault (step_at job k).step (work_of job (step_at job k).step) fault → HoldsSteps job k (Err (stopped_by k fault)) old new
   stopped_making fault old new holds run resumes sound = record {
     images = images_made old new holds run resumes;
     ok = tt;
@@ -447,39 +336,201 @@ module _ (job : Job) (k : ℕ) (few : AreFew job) (rests : RestsOnSteps job) (wi
     spent = great_work k (work_of job (step_at job k).step) (step_at job k).step fault sound;
   }
 
-  -- it was, and its commit failed, or what it leaves behind was cut, or a part of that
-  module _ (e : Entry) (old mid last : World) (files : AreFiles (now mid).folder) (holds : Holds job k (now old).folder) (made : Ran (OnlyItsFiles k (now old)) old mid)
-      (resumes : Throughout old mid (CanGoOn job k)) (is_made : IsMade job k (now mid).folder) (entry : IsEntryOfStep job k e) (commits : Ran (DuringCommit e (now mid)) mid last) where
+-- a place has one entry
+one_entry : (steps : List Planned) (e : Entry) (j : ℕ) (x y : Entry) → IsEntryWith steps e j x → IsEntryWith steps e j y → x ≡ y
+one_entry steps e j x y (inl (same, is)) (inl (again, other)) = is ∙ sym other
+one_entry steps e j x y (inl (same, is)) (inr (behind, other)) = absurd (omega (arith, same, behind))
+one_entry steps e j x y (inr (behind, one)) (inl (same, other)) = absurd (omega (arith, same, behind))
+one_entry steps e j x y (inr (behind, (gone, drops_it, is))) (inr (later, (other, also, here))) =
+    let step : Drop gone ≡ Drop other = sym drops_it ∙ also in
+    let same : gone ≡ other = cc in
+    is ∙ ap (λ i. nameless_entry j 2 0 i one_turn) same ∙ sym here
+
+-- a step that was made is committed together with the drops behind it
+module _ (job : Job) (plan : IsWellFormed job.n job.text job.steps) (k end : ℕ) (within : k < end) (upto : end ≤ length job.steps)
+    (e : Entry) (number : e.number ≡ k) (are : AreDrops job.steps (k + 1) end) where
+  inside : k < length job.steps
+  inside = omega (arith, within, upto)
+
+  operands_below : IsTrue (list_all (λ j. nat_lt j k) (operands (step_at job k).step))
+  operands_below = (may_run job.n job.text job.steps k no_step inside plan).operands_are
+
+  -- a file that is cut then is that of one of these steps or of an earlier one
+  pub cut_below : (f : FileNo) → IsCutTogether job.steps e end f → f.step < end
+  cut_below f (inl cut) =
+      let low : f.step ≤ k =
+      cut_file (step_at job k).step k e.parts f operands_below (subst (λ i. IsCutBy (step_at job i).step i e.parts f) number cut) in
+      omega (arith, low, within)
+  cut_below f (inr (j, from, short, (gone, drops_it, is))) =
+      let low : gone < j = drop_below job j gone plan (omega (arith, short, upto)) drops_it in
+      let same : f.step ≡ gone = ap (λ (q : FileNo). q.step) is in
+      omega (arith, low, same, short)
+
+  pub run_committed : (until : ℕ) (old mid new : World) → end ≤ until → Ran (Takes job k until old) old mid
+      → Ran (DuringTogether job.steps e end (now mid)) mid new → Ran (Takes job k until old) old new
+  run_committed until old mid new short first second = ran_joins old mid new (Takes job k until old) first
+      (ran_weakens mid new (DuringTogether job.steps e end (now mid)) (Takes job k until old)
+      (λ m during. taking_commits (length job.steps) job.steps k end until e (now old).folder (now mid) m number short
+      (ran_end old mid (Takes job k until old) first) during) second)
+
+  -- the job's files stay while what they leave behind is cut
+  pub job_tidied : (last m : Moment) → TidiedTogether job.steps e end last m → JobStays last.folder m.folder
+  job_tidied last m tidied f of_job =
+      tidied.only f (λ cut. let own = cut_below f cut in let few = plan.few_steps in omega (arith, own, of_job, few, upto))
+
+  pub run_tidied : (until : ℕ) (old last new : World) → end ≤ until → IsReady end (now last).folder → Ran (Takes job k until old) old last
+      → Ran (TidiedTogether job.steps e end (now last)) last new → Ran (Takes job k until old) old new
+  run_tidied until old last new short ready first second = ran_joins old last new (Takes job k until old) first
+      (ran_weakens last new (TidiedTogether job.steps e end (now last)) (Takes job k until old) (λ m tidied.
+      taking_same (length job.steps) k until end (now old).folder (now last).folder m.folder (omega (arith, within)) short ready
+      (job_tidied (now last) m tidied)
+      (λ f apart. tidied.only f (λ cut. apart (inl (let own = cut_below f cut in omega (arith, own, upto)))))
+      (ran_end old last (Takes job k until old) first)) second)
+
+  -- the folder is as ready then
+  pub ready_tidied : (count : ℕ) (last new : World) → Ran (TidiedTogether job.steps e end (now last)) last new
+      → IsReady count (now last).folder → IsReady count (now new).folder
+  ready_tidied count last new tidies ready =
+      ready_same count (now last).folder (now new).folder
+      (job_tidied (now last) (now new) (ran_end last new (TidiedTogether job.steps e end (now last)) tidies)) ready
+
+  -- an entry that is committed together with the first one is one for its step
+  pub entry_for : IsEntryFor (step_at job k).step k e → (j : ℕ) (x : Entry) → j < end → IsEntryWith job.steps e j x
+      → IsEntryFor (step_at job j).step j x
+  entry_for fits j x below (inl (same, is)) =
+      subst (IsEntryFor (step_at job j).step j) (sym is) (subst (λ i. IsEntryFor (step_at job i).step i e) (sym (same ∙ number)) fits)
+  entry_for fits j x below (inr (behind, (gone, drops_it, is))) =
+      let few = plan.few_steps in
+      let low : gone < j = drop_below job j gone plan (omega (arith, below, upto)) drops_it in
+      subst (IsEntryFor (step_at job j).step j) (sym is)
+      (for_drop j gone (step_at job j) drops_it (omega (arith, low, below, upto, few)) (omega (arith, below, upto, few)))
+
+  -- so it is the step's where it stands at its place
+  has_entry : (r : FileNo → List ℕ) → IsEntryFor (step_at job k).step k e → (j : ℕ) (x : Entry) → j < end → IsEntryWith job.steps e j x
+      → entry_at j r ≡ entry_bytes x → HasEntry job.steps j x r
+  has_entry r fits j x below is placed =
+      let entry : IsEntryFor (step_at job j).step j x = entry_for fits j x below is in
+      record { stands = record { entry = entry.entry_is; number = entry.number_is; bytes = placed }; kind_is = entry.kind_is }
+
+  module _ (fits : IsEntryFor (step_at job k).step k e) (last new : World) (together : AreTogether job.steps e end (now last).folder)
+      (tidies : Ran (TidiedTogether job.steps e end (now last)) last new) where
+    stands_then : (j : ℕ) → entry_at j (present (now new).folder) ≡ entry_at j (present (now last).folder)
+    stands_then j = ap (λ (x : File). take 128 (drop (128 * j) x.bytes))
+        (job_tidied (now last) (now new) (ran_end last new (TidiedTogether job.steps e end (now last)) tidies) catalogue refl)
+
+    -- so do all of them
+    pub entries_made : (j : ℕ) → k ≤ j → j < end → (x : Entry) × HasEntry job.steps j x (present (now new).folder)
+    entries_made j from below =
+        let found = together.placed j (omega (arith, from, number)) below in
+        (found.0, has_entry (present (now new).folder) fits j found.0 below found.1 (stands_then j ∙ found.2))
+
+    -- and the last one
+    pub last_made : (d : Entry) → d.number + 1 ≡ end → IsEntryWith job.steps e d.number d → HasEntry job.steps d.number d (present (now new).folder)
+    last_made d last_is is =
+        let below : d.number < end = omega (arith, last_is) in
+        let found = together.placed d.number (omega (arith, last_is, within, number)) below in
+        let same : found.0 ≡ d = one_entry job.steps e d.number found.0 d found.1 is in
+        has_entry (present (now new).folder) fits d.number d below is (stands_then d.number ∙ found.2 ∙ ap entry_bytes same)
+
+  -- an earlier diagram's file stays until they are tidied up
+  until_tidied : (old mid last : World) → Ran (OnlyItsFiles k (now old)) old mid → Ran (DuringTogether job.steps e end (now mid)) mid last
+      → (f : FileNo) → f.step ≢ k → f.step ≢ job_step → file_in (now last).folder f ≡ file_in (now old).folder f
+  until_tidied old mid last made commits f other apart =
+      let of_step : IsOfStep f = record { early = apart } in
+      (ran_end mid last (DuringTogether job.steps e end (now mid)) commits).others f (not_catalogue f of_step) (not_step_gate f of_step)
+      ∙ ran_end old mid (OnlyItsFiles k (now old)) made f other
+
+  earlier_apart : (j : ℕ) → j < k → ((node_file j).step ≢ k) × ((node_file j).step ≢ job_step)
+  earlier_apart j below = let few = plan.few_steps in (
+    (λ is. let same : j ≡ k = is in omega (arith, same, below)),
+    (λ is. let same : j ≡ job_step = is in omega (arith, same, below, inside, few)),
+  )
+
+  module _ (old mid last new : World) (made : Ran (OnlyItsFiles k (now old)) old mid) (commits : Ran (DuringTogether job.steps e end (now mid)) mid last)
+      (tidies : Ran (TidiedTogether job.steps e end (now last)) last new) where
+    tidied : TidiedTogether job.steps e end (now last) (now new)
+    tidied = ran_end last new (TidiedTogether job.steps e end (now last)) tidies
+
+    -- where it was empty it is empty then
+    pub still_empty : (j : ℕ) → j < k → StaysEmpty (node_file j) (now old).folder (now new).folder
+    still_empty j below before =
+        let apart = earlier_apart j below in
+        tidied.stays (node_file j) (ap (λ (x : File). x.bytes) (until_tidied old mid last made commits (node_file j) apart.0 apart.1) ∙ before)
+
+    -- and unless one of them drops it, it is as it was
+    pub keeps_diagrams : KeepsDiagrams job.steps k end (now old).folder (now new).folder
+    keeps_diagrams j below none =
+        let apart = earlier_apart j below in
+        tidied.only (node_file j) (not_cut j below none) ∙ until_tidied old mid last made commits (node_file j) apart.0 apart.1
+      where
+        not_cut : (j : ℕ) → j < k → NoneDrops job.steps k end j → ¬ (IsCutTogether job.steps e end (node_file j))
+        not_cut j below none (inl (inl (gone, dropped, is))) =
+            let same : gone ≡ j = ap (λ (q : FileNo). q.step) (sym is) in
+            none e.number (omega (arith, number)) (omega (arith, number, within)) (dropping gone (step_at job e.number).step dropped ∙ ap Drop same)
+        not_cut j below none (inl (inr (swept, behind))) = let same : j ≡ e.number = behind.step_is in omega (arith, same, number, below)
+        not_cut j below none (inr (i, from, short, (gone, drops_it, is))) =
+            let same : gone ≡ j = ap (λ (q : FileNo). q.step) (sym is) in
+            none i (omega (arith, from, number)) short (drops_it ∙ ap Drop same)
+
+    -- and the files of the steps behind them stay
+    pub keeps_later : KeepsLater end (now old).folder (now new).folder
+    keeps_later f from before =
+        tidied.only f (λ cut. let low = cut_below f cut in omega (arith, low, from))
+        ∙ until_tidied old mid last made commits f (λ own. let same : f.step ≡ k = own in omega (arith, same, from, within)) (λ is. omega (arith, is, before))
+
+  -- the images of a folder that holds the steps before, while these are taken
+  module _ (rests : RestsOnSteps job) (old mid last : World) (files : AreFiles (now mid).folder) (holds : Holds job k (now old).folder)
+      (made : Ran (OnlyItsFiles k (now old)) old mid) (resumes : Throughout old mid (CanGoOn job k)) (is_made : IsMade job k (now mid).folder)
+      (entry : IsEntryOfStep job k e) (commits : Ran (DuringTogether job.steps e end (now mid)) mid last) where
     holds_mid : Holds job k (now mid).folder
-    holds_mid = holds_made old mid holds made resumes
+    holds_mid = holds_made job k plan.few_steps rests inside old mid holds made resumes
+
+    images_committed : Throughout mid last (AllHave job k)
+    images_committed = weakens mid last (Quiet (now mid).said (DuringTogether job.steps e end (now mid))) (AllHave job k) (λ m quiet image is_image.
+        let safe = sound_together job plan rests k end within upto e number are (now mid) files holds_mid is_made entry m quiet.holds image is_image in
+        record { sound = safe.0; counts = safe.1; stored = safe.2 }) commits.moments
 
     to_last : Throughout old last (AllHave job k)
-    to_last = joins old mid last (AllHave job k) (images_made old mid holds made resumes) (images_committed e mid last files holds_mid is_made entry commits)
+    to_last = joins old mid last (AllHave job k) (images_made job k plan.few_steps rests inside old mid holds made resumes) images_committed
 
-    pub stopped_committing : HoldsStep job k (Err FolderFault) old last
+    pub stopped_committing : HoldsSteps job k (Err FolderFault) old last
     stopped_committing = record { images = to_last; ok = tt; err = λ x. x; spent = λ j e. absurd cc }
 
-    module _ (s : Step) (step : (step_at job k).step ≡ s) (earlier : IsTrue (list_all (λ j. nat_lt j k) (operands s))) (new : World)
-        (committed : IsCommitted e (now mid).folder (now last).folder) (tidies : Ran (OnlyTidied s k e.parts (now last)) last new) where
-      during : DuringCommit e (now mid) (now last)
-      during = ran_end mid last (DuringCommit e (now mid)) commits
+    module _ (files_last : AreFiles (now last).folder) (new : World) (together : AreTogether job.steps e end (now last).folder)
+        (tidies : Ran (TidiedTogether job.steps e end (now last)) last new) where
+      during : DuringTogether job.steps e end (now mid) (now last)
+      during = ran_end mid last (DuringTogether job.steps e end (now mid)) commits
 
-      holds_last : Holds job (k + 1) (now last).folder
-      holds_last = holds_after_commit job k e (now mid) (now last) files few within holds_mid is_made entry during committed
+      holds_last : Holds job end (now last).folder
+      holds_last = holds_together job plan rests k end within upto e number are (now mid) files holds_mid is_made entry (now last) during files_last together
 
-      none_last : NoneGated job (k + 1) (now last).folder
-      none_last = none_after_commit job k e (now mid) (now last) files few holds_mid during
+      none_last : NoneGated job end (now last).folder
+      none_last s from within_all =
+          none_together job plan rests k end within upto e number are (now mid) files holds_mid is_made entry (now last) during s (omega (arith, from, within)) within_all
+
+      holds_cut : (m : Moment) → TidiedTogether job.steps e end (now last) m → Holds job end m.folder
+      holds_cut m cut = holds_while_cut job plan rests k end within upto e number are cut_below (now last) m cut holds_last none_last
+
+      images_tidied : Throughout last new (AllHave job k)
+      images_tidied = weakens last new (Quiet (now last).said (TidiedTogether job.steps e end (now last))) (AllHave job k) (λ m quiet image is_image.
+          let has = held_steps job end m.folder image (holds_cut m quiet.holds) is_image in
+          let counts = has.counts in
+          record { sound = has.sound; counts = omega (arith, counts, within); stored = has.stored }) tidies.moments
 
       all_images : Throughout old new (AllHave job k)
-      all_images = joins old last new (AllHave job k) to_last (images_tidied s e.parts last new step earlier holds_last none_last tidies)
+      all_images = joins old last new (AllHave job k) to_last images_tidied
 
-      pub stopped_tidying : HoldsStep job k (Err FolderFault) old new
+      pub stopped_tidying : HoldsSteps job k (Err FolderFault) old new
       stopped_tidying = record { images = all_images; ok = tt; err = λ x. x; spent = λ j e. absurd cc }
 
-      pub was_taken : HoldsStep job k (Ok e) old new
-      was_taken = record {
+      pub were_taken : (d : Entry) → d.number + 1 ≡ end → IsEntryWith job.steps e d.number d → HoldsSteps job k (Ok d) old new
+      were_taken d last_is is = record {
         images = all_images;
-        ok = (holds_tidied s e.parts (now last).folder (now new).folder step earlier holds_last none_last (ran_end last new (OnlyTidied s k e.parts (now last)) tidies), entry);
+        ok = (
+          subst (λ n. Holds job n (now new).folder) (sym last_is)
+              (holds_cut (now new) (ran_end last new (TidiedTogether job.steps e end (now last)) tidies)),
+          entry_with job plan rests k end within upto e number are entry d.number d (omega (arith, last_is)) is,
+        );
         err = tt;
         spent = tt;
       }
@@ -526,6 +577,30 @@ cuts_few true step next turns work rest is = by_test (sweeps step) is
     by_test true (inr ((few, great), within)) = omega (arith, few, great, within)
     by_test false (inr ((few, great), within)) = omega arith
 
+-- with those of a step they are the calls before the next one
+pub calls_of_one_more : (job : Job) (step : ℕ) → step < length job.steps → calls_before job (step + 1) ≡ calls_before job step + step_calls job (step_at job step)
+calls_of_one_more job step within =
+    ap (sum_by (step_calls job)) (take_more job.steps step no_step within)
+    ∙ sum_by_push (step_calls job) (take step job.steps) (get_or job.steps step no_step)
+
+-- a step has eleven at least
+pub some_calls : (swept : Bool) (work : ℕ) → 11 ≤ cond swept (229 * work + work / 16 + 22) 11
+some_calls true work = omega arith
+some_calls false work = omega arith
+
+-- and so the steps behind one have
+pub calls_least : (job : Job) (from more : ℕ) → from + more ≤ length job.steps → calls_before job from + 11 * more ≤ calls_before job (from + more)
+calls_least job from zero inside =
+    let none : from ≡ from + zero = omega arith in
+    subst (λ n. calls_before job from + 11 * zero ≤ calls_before job n) none (omega arith)
+calls_least job from (suc more) inside =
+    let before = calls_least job from more (omega (arith, inside)) in
+    let next = calls_of_one_more job (from + more) (omega (arith, inside)) in
+    let own : 11 ≤ step_calls job (step_at job (from + more)) =
+    some_calls (sweeps (step_at job (from + more)).step) (work_of job (step_at job (from + more)).step) in
+    let all : from + more + 1 ≡ from + suc more = omega arith in
+    subst (λ n. calls_before job from + 11 * suc more ≤ calls_before job n) all (omega (arith, before, next, own))
+
 module _ {S : Type 0} (tells : S → Bool) (world : S → World) (counts : S → Faults) (law : (s : S) → IsTrue (tells s) → AreFiles (now (world s)).folder)
     (job : Job) (k : ℕ) (plan : IsWellFormed job.n job.text job.steps) (within : k < length job.steps) (p : Planned) (p_is : p ≡ step_at job k)
     (earlier : IsTrue (list_all (λ j. nat_lt j k) (operands p.step))) where
@@ -553,7 +628,7 @@ module _ {S : Type 0} (tells : S → Bool) (world : S → World) (counts : S →
           (subst (λ x. PaysRest x k (present (now (world old)).folder) (rest - 1606)) place_is pays)
     ]
 
-    pub few_calls : (last new : ℕ) → last ≤ (world s).clock + 5
+    few_calls : (last new : ℕ) → last ≤ (world s).clock + 5
         → new ≤ last + most_cuts (sweeps p.step) (work_of job p.step) (spare_of rest)
         → new ≤ (world old).clock + (step_calls job p + rest)
     few_calls last new = step_sum (sweeps p.step) (work_of job p.step) rest (world old).clock (world s).clock last new few_made
@@ -571,7 +646,7 @@ module _ {S : Type 0} (tells : S → Bool) (world : S → World) (counts : S →
       (runs.few_parts tells_s 1019 (λ c told. omega arith), omega (arith, paid))
 
   -- and where it was made those of cutting what it leaves behind
-  pub taken_calls : (e : Entry) (old s : S) → MakesStep tells world counts job.n job.text k p old s (Ok e) → IsTrue (tells s)
+  taken_calls : (e : Entry) (old s : S) → MakesStep tells world counts job.n job.text k p old s (Ok e) → IsTrue (tells s)
       → (gated : Bool) (rest : ℕ) → IsCounted job k gated (now (world old)).folder rest → (last new : ℕ) → last ≤ (world s).clock + 5
       → new ≤ last + cut_calls gated p.step e.parts → new ≤ (world old).clock + (step_calls job p + rest)
   taken_calls e old s runs tells_s gated rest counted last new committed tidied =
@@ -590,6 +665,52 @@ module _ {S : Type 0} (tells : S → Bool) (world : S → World) (counts : S →
             inr (few_taken e old s runs tells_s holds gated known rest pays, subst (λ x. e.turns ≤ work_of job x) place_is entry.turns_are.1)
       ]
 
+  -- those of taking it together with the drops behind it: three at most for each of these
+  calls_to : (end until : ℕ) → k < end → end ≤ until → until ≤ length job.steps → (rest first most new : ℕ)
+      → most ≤ first + (step_calls job p + rest) → new ≤ most + 3 * (end - (k + 1))
+      → new + calls_before job k ≤ first + (calls_before job until + rest)
+  calls_to end until behind short all rest first most new one more =
+      let own : calls_before job (k + 1) ≡ calls_before job k + step_calls job p =
+      calls_of_one_more job k within ∙ ap (λ q. calls_before job k + step_calls job q) (sym p_is) in
+      let sum : k + 1 + (until - (k + 1)) ≡ until = omega (arith, behind, short) in
+      let least : calls_before job (k + 1) + 11 * (until - (k + 1)) ≤ calls_before job until =
+      subst (λ n. calls_before job (k + 1) + 11 * (until - (k + 1)) ≤ calls_before job n) sum
+      (calls_least job (k + 1) (until - (k + 1)) (omega (arith, sum, all))) in
+      omega (arith, own, least, one, more, behind, short)
+
+  -- the step couldn't be run
+  pub stopped_calls : (until : ℕ) → k < until → until ≤ length job.steps → (old s : S) (result : Result Entry SortFault)
+      → MakesStep tells world counts job.n job.text k p old s result → IsTrue (tells s) → (gated : Bool) (rest : ℕ)
+      → IsCounted job k gated (now (world old)).folder rest
+      → (world s).clock + calls_before job k ≤ (world old).clock + (calls_before job until + rest)
+  stopped_calls until more all old s result runs tells_s gated rest counted =
+      calls_to (k + 1) until (omega arith) (omega (arith, more)) all rest (world old).clock (world s).clock (world s).clock
+      (few_calls old s result runs tells_s gated rest counted (world s).clock (world s).clock (omega arith) (omega arith)) (omega arith)
+
+  module _ (end until : ℕ) (behind : k < end) (short : end ≤ until) (all : until ≤ length job.steps) (e : Entry) (old s : S)
+      (runs : MakesStep tells world counts job.n job.text k p old s (Ok e)) (tells_s : IsTrue (tells s)) (gated : Bool) (rest : ℕ)
+      (counted : IsCounted job k gated (now (world old)).folder rest) where
+    -- it couldn't be committed with them
+    pub committing_calls : (new : ℕ) → new ≤ (world s).clock + (2 * (end - e.number) + 3)
+        → new + calls_before job k ≤ (world old).clock + (calls_before job until + rest)
+    committing_calls new commits =
+        let number = runs.fits.number_is in
+        calls_to end until behind short all rest (world old).clock ((world s).clock + 5) new
+        (few_calls old s (Ok e) runs tells_s gated rest counted ((world s).clock + 5) ((world s).clock + 5) (omega arith) (omega arith))
+        (omega (arith, commits, number, behind))
+
+    -- or it was, and what they leave behind was cut, or a part of that
+    pub together_calls : (last new : ℕ) → last ≤ (world s).clock + (2 * (end - e.number) + 3)
+        → new ≤ last + (cut_calls gated (step_at job e.number).step e.parts + (end - (e.number + 1)))
+        → new + calls_before job k ≤ (world old).clock + (calls_before job until + rest)
+    together_calls last new commits tidied =
+        let number = runs.fits.number_is in
+        let cuts : new ≤ last + (cut_calls gated p.step e.parts + (end - (e.number + 1))) =
+        subst (λ x. new ≤ last + (cut_calls gated x e.parts + (end - (e.number + 1)))) (ap (λ i. (step_at job i).step) number ∙ place_is) tidied in
+        calls_to end until behind short all rest (world old).clock ((world s).clock + 5 + cut_calls gated p.step e.parts) new
+        (taken_calls e old s runs tells_s gated rest counted ((world s).clock + 5) ((world s).clock + 5 + cut_calls gated p.step e.parts) (omega arith) (omega arith))
+        (omega (arith, commits, cuts, number, behind))
+
   -- at most the step's own files were changed
   filed : (old s : S) → Told tells old s (Ran (OnlyMade p.step k (now (world old))) (world old) (world s)) → IsTrue (tells s)
       → Ran (OnlyItsFiles k (now (world old))) (world old) (world s)
@@ -597,17 +718,19 @@ module _ {S : Type 0} (tells : S → Bool) (world : S → World) (counts : S →
       (λ m only f apart. only f (λ changed. apart (own_file p.step k f changed))) (made.did tells_s)
 
   -- the step couldn't be run
-  module _ (fault : SortFault) (old s : S) (runs : MakesStep tells world counts job.n job.text k p old s (Err fault)) where
+  module _ (until : ℕ) (more : k ≤ until) (fault : SortFault) (old s : S) (runs : MakesStep tells world counts job.n job.text k p old s (Err fault)) where
     stopped_so : (IsTrue (tells old) → IsReady k (now (world old)).folder)
-        → Told tells old s (TakesStep job k (Err (stopped_by k fault)) (world old) (world s))
+        → Told tells old s (TakesSteps job k until (Err (stopped_by k fault)) (world old) (world s))
     stopped_so ready = record {
       before = runs.content.before;
       did = λ tells_s.
           let tells_old : IsTrue (tells old) = runs.content.before tells_s in
           let ran = filed old s runs.content tells_s in
           record {
-            run = run_made job k plan.few_steps within (world old) (world s) (ready tells_old) ran;
+            run = run_made job k plan.few_steps within until (world old) (world s) more (ready tells_old) ran;
+            reached = tt;
             ready = tt;
+            last = tt;
             made = tt;
             emptied = tt;
             still_empty = tt;
@@ -624,11 +747,20 @@ module _ {S : Type 0} (tells : S → Bool) (world : S → World) (counts : S →
     }
 
     pub was_stopped : (finish : Finish) → finish ≡ stopped_by k fault → (IsTrue (tells old) → IsReady k (now (world old)).folder)
-        → Told tells old s (TakesStep job k (Err finish) (world old) (world s))
-    was_stopped finish finish_is ready = subst (λ x. Told tells old s (TakesStep job k (Err x) (world old) (world s))) (sym finish_is) (stopped_so ready)
+        → Told tells old s (TakesSteps job k until (Err finish) (world old) (world s))
+    was_stopped finish finish_is ready =
+        subst (λ x. Told tells old s (TakesSteps job k until (Err x) (world old) (world s))) (sym finish_is) (stopped_so ready)
 
-  -- what a step that was made leaves for its commit
-  module _ (e : Entry) (old s : S) (runs : MakesStep tells world counts job.n job.text k p old s (Ok e)) (ready : IsTrue (tells old) → IsReady k (now (world old)).folder) where
+  -- what a step that was made leaves for its commit, together with the drops behind it
+  module _ (until end : ℕ) (behind : k < end) (short : end ≤ until) (all : until ≤ length job.steps) (e : Entry) (old s : S)
+      (runs : MakesStep tells world counts job.n job.text k p old s (Ok e)) (ready : IsTrue (tells old) → IsReady k (now (world old)).folder)
+      (drops_are : AreDrops job.steps (k + 1) end) where
+    number : e.number ≡ k
+    number = runs.fits.number_is
+
+    upto : end ≤ length job.steps
+    upto = omega (arith, short, all)
+
     ready_for : Holds job k (now (world old)).folder → IsReadyFor job job.n job.text k p (world old)
     ready_for holds = record { step = the_step; holds = λ reads. holds }
 
@@ -637,24 +769,28 @@ module _ {S : Type 0} (tells : S → Bool) (world : S → World) (counts : S →
 
     pub made_ready : IsTrue (tells s) → IsReady e.number (now (world s)).folder
     made_ready tells_s =
-        subst (λ c. IsReady c (now (world s)).folder) (sym runs.fits.number_is)
+        subst (λ c. IsReady c (now (world s)).folder) (sym number)
         (ready_made job k plan.few_steps within k (world old) (world s) (ran_so tells_s) (ready (runs.content.before tells_s)))
 
     -- the run up to the commit, and within it
-    to_commit : (t : S) → IsTrue (tells s) → Ran (DuringCommit e (now (world s))) (world s) (world t)
-        → Ran (λ m. IsTaking (length job.steps) k (now (world old)).folder m.folder) (world old) (world t)
+    to_commit : (t : S) → IsTrue (tells s) → Ran (DuringTogether job.steps e end (now (world s))) (world s) (world t)
+        → Ran (Takes job k until (world old)) (world old) (world t)
     to_commit t tells_s commits =
-        run_committed job k plan.few_steps within e (world old) (world s) (world t) runs.fits.number_is
-        (run_made job k plan.few_steps within (world old) (world s) (ready (runs.content.before tells_s)) (ran_so tells_s)) commits
+        run_committed job plan k end behind upto e number drops_are until (world old) (world s) (world t) short
+        (run_made job k plan.few_steps within until (world old) (world s) (omega (arith, behind, short)) (ready (runs.content.before tells_s)) (ran_so tells_s))
+        commits
 
-    pub commit_failed : (t : S) → Told tells s t (Ran (DuringCommit e (now (world s))) (world s) (world t)) → Told tells old t (TakesStep job k (Err FolderFault) (world old) (world t))
+    pub commit_failed : (t : S) → Told tells s t (Ran (DuringTogether job.steps e end (now (world s))) (world s) (world t))
+        → Told tells old t (TakesSteps job k until (Err FolderFault) (world old) (world t))
     commit_failed t commits = record {
       before = λ tells_t. runs.content.before (commits.before tells_t);
       did = λ tells_t.
           let tells_s : IsTrue (tells s) = commits.before tells_t in
           record {
             run = to_commit t tells_s (commits.did tells_t);
+            reached = tt;
             ready = tt;
+            last = tt;
             made = tt;
             emptied = tt;
             still_empty = tt;
@@ -663,30 +799,31 @@ module _ {S : Type 0} (tells : S → Bool) (world : S → World) (counts : S →
             stops = tt;
             damaged = λ f at d. absurd cc;
             spent = λ j d. absurd cc;
-            holds = λ holds. stopped_committing job k plan.few_steps rests within e (world old) (world s) (world t) (law s tells_s) holds (ran_so tells_s)
-                (runs.resumes tells_s job the_step holds) (runs.made tells_s job (ready_for holds)) (runs.entry tells_s job (ready_for holds)) (commits.did tells_t);
+            holds = λ holds. stopped_committing job plan k end behind upto e number drops_are rests (world old) (world s) (world t) (law s tells_s) holds
+                (ran_so tells_s) (runs.resumes tells_s job the_step holds) (runs.made tells_s job (ready_for holds))
+                (runs.entry tells_s job (ready_for holds)) (commits.did tells_t);
           };
     }
 
-    module _ (t u : S) (commits : Told tells s t (Ran (DuringCommit e (now (world s))) (world s) (world t)))
-        (committed : IsTrue (tells t) → IsCommitted e (now (world s)).folder (now (world t)).folder)
-        (cuts : Told tells t u (Ran (OnlyTidied p.step e.number e.parts (now (world t))) (world t) (world u))) where
-      tidies : Told tells t u (Ran (OnlyTidied p.step k e.parts (now (world t))) (world t) (world u))
-      tidies = subst (λ j. Told tells t u (Ran (OnlyTidied p.step j e.parts (now (world t))) (world t) (world u))) runs.fits.number_is cuts
+    module _ (t u : S) (commits : Told tells s t (Ran (DuringTogether job.steps e end (now (world s))) (world s) (world t)))
+        (together : IsTrue (tells t) → AreTogether job.steps e end (now (world t)).folder)
+        (cuts : Told tells t u (Ran (TidiedTogether job.steps e end (now (world t))) (world t) (world u))) where
+      to_end : IsTrue (tells s) → IsTrue (tells t) → IsTrue (tells u) → Ran (Takes job k until (world old)) (world old) (world u)
+      to_end tells_s tells_t tells_u =
+          run_tidied job plan k end behind upto e number drops_are until (world old) (world t) (world u) short (together tells_t).ready
+          (to_commit t tells_s (commits.did tells_t)) (cuts.did tells_u)
 
-      ready_last : IsTrue (tells t) → IsReady (k + 1) (now (world t)).folder
-      ready_last tells_t = subst (λ c. IsReady (c + 1) (now (world t)).folder) runs.fits.number_is (committed tells_t).ready
-
-      pub tidy_failed : Told tells old u (TakesStep job k (Err FolderFault) (world old) (world u))
+      pub tidy_failed : Told tells old u (TakesSteps job k until (Err FolderFault) (world old) (world u))
       tidy_failed = record {
-        before = λ tells_u. runs.content.before (commits.before (tidies.before tells_u));
+        before = λ tells_u. runs.content.before (commits.before (cuts.before tells_u));
         did = λ tells_u.
-            let tells_t : IsTrue (tells t) = tidies.before tells_u in
+            let tells_t : IsTrue (tells t) = cuts.before tells_u in
             let tells_s : IsTrue (tells s) = commits.before tells_t in
             record {
-              run = run_tidied job k plan.few_steps within p.step e.parts (world old) (world t) (world u) earlier (ready_last tells_t)
-                  (to_commit t tells_s (commits.did tells_t)) (tidies.did tells_u);
+              run = to_end tells_s tells_t tells_u;
+              reached = tt;
               ready = tt;
+              last = tt;
               made = tt;
               emptied = tt;
               still_empty = tt;
@@ -695,37 +832,45 @@ module _ {S : Type 0} (tells : S → Bool) (world : S → World) (counts : S →
               stops = tt;
               damaged = λ f at d. absurd cc;
               spent = λ j d. absurd cc;
-              holds = λ holds. stopped_tidying job k plan.few_steps rests within e (world old) (world s) (world t) (law s tells_s) holds (ran_so tells_s)
-                  (runs.resumes tells_s job the_step holds) (runs.made tells_s job (ready_for holds)) (runs.entry tells_s job (ready_for holds)) (commits.did tells_t)
-                  p.step place_is earlier (world u) (committed tells_t) (tidies.did tells_u);
+              holds = λ holds. stopped_tidying job plan k end behind upto e number drops_are rests (world old) (world s) (world t) (law s tells_s) holds
+                  (ran_so tells_s) (runs.resumes tells_s job the_step holds) (runs.made tells_s job (ready_for holds))
+                  (runs.entry tells_s job (ready_for holds)) (commits.did tells_t) (law t tells_t) (world u) (together tells_t) (cuts.did tells_u);
             };
       }
 
-      pub took : (IsTrue (tells u) → (gone : ℕ) → p.step ≡ Drop gone → (file (world u) (node_file gone)).bytes ≡ [])
-          → Told tells old u (TakesStep job k (Ok e) (world old) (world u))
-      took empty = record {
-        before = λ tells_u. runs.content.before (commits.before (tidies.before tells_u));
+      pub took : (d : Entry) → (d.number + 1 ≡ end) × IsEntryWith job.steps e d.number d
+          → (IsTrue (tells u) → (j gone : ℕ) → e.number ≤ j → j < end → (step_at job j).step ≡ Drop gone → (file (world u) (node_file gone)).bytes ≡ [])
+          → Told tells old u (TakesSteps job k until (Ok d) (world old) (world u))
+      took d (last_is, is) empty = record {
+        before = λ tells_u. runs.content.before (commits.before (cuts.before tells_u));
         did = λ tells_u.
-            let tells_t : IsTrue (tells t) = tidies.before tells_u in
+            let tells_t : IsTrue (tells t) = cuts.before tells_u in
             let tells_s : IsTrue (tells s) = commits.before tells_t in
+            let fits : IsEntryFor (step_at job k).step k e = subst (λ (q : Planned). IsEntryFor q.step k e) p_is runs.fits in
+            let new : Folder = (now (world u)).folder in
             record {
-              run = run_tidied job k plan.few_steps within p.step e.parts (world old) (world t) (world u) earlier (ready_last tells_t)
-                  (to_commit t tells_s (commits.did tells_t)) (tidies.did tells_u);
-              ready = ready_tidied job k plan.few_steps within p.step e.parts (k + 1) (world t) (world u) earlier (tidies.did tells_u) (ready_last tells_t);
-              made = entry_made job k plan.few_steps within p.step e (world s) (world t) (world u) place_is earlier runs.fits
-                  (made_ready tells_s) (committed tells_t) (tidies.did tells_u);
-              emptied = emptied_here job k plan.few_steps within p.step (now (world u)).folder place_is (empty tells_u);
-              still_empty = still_empty job k plan.few_steps within p.step e (world old) (world s) (world t) (world u) (ran_so tells_s) (commits.did tells_t)
-                  (tidies.did tells_u);
-              keeps = keeps_diagrams job k plan.few_steps within p.step e
-                  (world old) (world s) (world t) (world u) place_is (ran_so tells_s) (commits.did tells_t) (tidies.did tells_u);
-              later = keeps_later job k plan.few_steps within p.step e (world old) (world s) (world t) (world u) earlier (ran_so tells_s) (commits.did tells_t)
-                  (tidies.did tells_u);
+              run = to_end tells_s tells_t tells_u;
+              reached = (omega (arith, last_is, behind), omega (arith, last_is, short));
+              ready = subst (λ n. IsReady n new) (sym last_is)
+                  (ready_tidied job plan k end behind upto e number drops_are end (world t) (world u) (cuts.did tells_u) (together tells_t).ready);
+              last = last_made job plan k end behind upto e number drops_are fits (world t) (world u) (together tells_t) (cuts.did tells_u) d last_is is;
+              made = λ j from below. entries_made job plan k end behind upto e number drops_are fits (world t) (world u) (together tells_t) (cuts.did tells_u)
+                  j from (omega (arith, below, last_is));
+              emptied = subst (λ n. AreEmptied job.steps k n new) (sym last_is)
+                  (λ j from below gone drops_it. empty tells_u j gone (omega (arith, from, number)) below drops_it);
+              still_empty = still_empty job plan k end behind upto e number drops_are (world old) (world s) (world t) (world u) (ran_so tells_s)
+                  (commits.did tells_t) (cuts.did tells_u);
+              keeps = subst (λ n. KeepsDiagrams job.steps k n (now (world old)).folder new) (sym last_is)
+                  (keeps_diagrams job plan k end behind upto e number drops_are (world old) (world s) (world t) (world u) (ran_so tells_s)
+                  (commits.did tells_t) (cuts.did tells_u));
+              later = subst (λ n. KeepsLater n (now (world old)).folder new) (sym last_is)
+                  (keeps_later job plan k end behind upto e number drops_are (world old) (world s) (world t) (world u) (ran_so tells_s)
+                  (commits.did tells_t) (cuts.did tells_u));
               stops = tt;
               damaged = tt;
               spent = tt;
-              holds = λ holds. was_taken job k plan.few_steps rests within e (world old) (world s) (world t) (law s tells_s) holds (ran_so tells_s)
-                  (runs.resumes tells_s job the_step holds) (runs.made tells_s job (ready_for holds)) (runs.entry tells_s job (ready_for holds)) (commits.did tells_t)
-                  p.step place_is earlier (world u) (committed tells_t) (tidies.did tells_u);
+              holds = λ holds. were_taken job plan k end behind upto e number drops_are rests (world old) (world s) (world t) (law s tells_s) holds
+                  (ran_so tells_s) (runs.resumes tells_s job the_step holds) (runs.made tells_s job (ready_for holds))
+                  (runs.entry tells_s job (ready_for holds)) (commits.did tells_t) (law t tells_t) (world u) (together tells_t) (cuts.did tells_u) d last_is is;
             };
       }

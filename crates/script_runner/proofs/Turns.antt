@@ -3,8 +3,8 @@ use Rattle.std.proofs.Common.{◌≡◌, ◌∙◌, ℕ, ◌+◌, ◌-◌, ◌*�
 use Rattle.std.specs.Prelude.{IsTrue, Result, Ok, Err, OnOk, if◌then◌else◌}
 use Rattle.std.specs.List.{list_all, sum_by}
 use Rattle.std.proofs.lemmas.Bool.{cases_lt}
-use Rattle.std.proofs.lemmas.List.{append-nil, length-take, length-drop, take_more}
-use Rattle.std.proofs.lemmas.List.Sums.{sum_by-take-le, sum_by_push}
+use Rattle.std.proofs.lemmas.List.{append-nil, length-take, length-drop}
+use Rattle.std.proofs.lemmas.List.Sums.{sum_by-take-le}
 use Rattle.shelf_model.specs.declared.fault.Failed.{Failed}
 use Rattle.shelf_model.specs.declared.file_no.FileNo.{FileNo}
 use Rattle.shelf_model.specs.Folder.{Image, AreFiles, file_in, bytes_in}
@@ -37,11 +37,12 @@ use Rattle.script_runner.specs.Text.{done_line, banner_line, ended_before, start
 use Rattle.script_runner.specs.Shapes.{IsShape, IsWholeShape}
 use Rattle.script_runner.specs.Lean.{IsLean}
 use Rattle.script_runner.specs.Running.{HasSaid, HasOtherJob, IsOther, IsDamage, RefusesFolder, IsStop, IsSpentStep, IsStill, StoodStill, MeetsDamage, MeetsSpent, AreEmptied, RunsSteps}
-use Rattle.script_runner.specs.StepRuns.{IsTaking, HoldsStep, TakesStep, IsSayStop, SaysLines}
-use Rattle.script_runner.specs.Calls.{step_calls, IsGated, IsCounted, AreCounted}
+use Rattle.script_runner.specs.StepRuns.{IsTaking, HoldsSteps, TakesSteps, IsSayStop, SaysLines}
+use Rattle.script_runner.specs.Calls.{step_calls, calls_before, IsGated, IsCounted, AreCounted}
 use Rattle.sound_image.specs.Files.{node_file}
 use Rattle.sound_image.proofs.EntryLaws.{entry_stands}
-use Rattle.script_runner.specs.Tidied.{TidiedLast, TidyCosts, EmptiesLast}
+use Rattle.script_runner.specs.Tidied.{TidiedLast, TidyCosts, EmptiesLast, MayBeLast}
+use Rattle.script_runner.proofs.Taking.{calls_of_one_more, calls_least}
 use Rattle.script_runner.proofs.LastTidied.{tidied_at, last_paid}
 use Rattle.script_runner.proofs.LineOrder.{ended_is, ended_most}
 use Rattle.script_runner.proofs.Standing.{IsStanding, IsDamaged, standing_says}
@@ -49,21 +50,8 @@ use Rattle.script_runner.proofs.RunSteps.{done_at, text_at, drop_below, present_
 use Rattle.script_runner.proofs.Paying.{unpaid, pays_now, gated_now}
 use Rattle.script_runner.proofs.StepByStep.{begun, says_lines, whole_behind, has_said_lines, ends}
 
--- the calls of the steps before that one
-pub calls_before : Job → ℕ → ℕ
-calls_before job step = sum_by (step_calls job) (take step job.steps)
-
--- with those of the step they are the calls before the next one
-pub calls_of_one_more : (job : Job) (step : ℕ) → step < length job.steps
-    → calls_before job (step + 1) ≡ calls_before job step + step_calls job (get_or job.steps step no_step)
-unfolding calls_before
-calls_of_one_more job step within =
-    ap (sum_by (step_calls job)) (take_more job.steps step no_step within)
-    ∙ sum_by_push (step_calls job) (take step job.steps) (get_or job.steps step no_step)
-
--- they are no more than those of all steps
+-- the calls of the steps before one are no more than those of all steps
 pub calls_before_all : (job : Job) (step : ℕ) → calls_before job step ≤ sum_by (step_calls job) job.steps
-unfolding calls_before
 calls_before_all job step = sum_by-take-le (step_calls job) job.steps step
 
 -- where a job is stored it is this one, whichever budget wrote it
@@ -74,9 +62,9 @@ IsThisJob job old = IsTrue (is_stored (present (now old).folder)) → without_bu
 abbrev pub Turn : Job → List LineEnd → ℕ → List LineEnd → World → World → Type 0
 Turn job lines step rest old new = AtStep job lines step rest old new × IsThisJob job old
 
--- the same once a step was taken, whose entry is at hand
-abbrev pub Taken : Job → List LineEnd → ℕ → List LineEnd → Entry → World → World → Type 0
-Taken job lines step rest e old new = Turn job lines (step + 1) rest old new × (AreSound job (now old).folder → IsEntryOfStep job step e)
+-- the same once steps were taken, the last of which has the entry at hand
+abbrev pub Taken : Job → List LineEnd → List LineEnd → Entry → World → World → Type 0
+Taken job lines rest e old new = Turn job lines (e.number + 1) rest old new × (AreSound job (now old).folder → IsEntryOfStep job e.number e)
 
 not_other : (job : Job) (old : World) → IsThisJob job old → IsOther job.bytes (present (now old).folder) → ⊥
 not_other job old same other = other.other (same other.stored)
@@ -338,20 +326,20 @@ module _ {S : Type 0} (tells : S → Bool) (world : S → World) (law : (s : S) 
   pub stopped_saying : {X : Type 0} (old t : S) → Told tells old t ((Ongoing job lines (world old) (world t) × IsThisJob job (world old)) × X) → Told tells old t (RunsSteps job lines SayFault (world old) (world t))
   stopped_saying old t so_far = told tells old t _ _ so_far (λ _ both. by_saying job lines (world old) (world t) both.0.0 both.0.1)
 
-  -- where the lines that remain rise from a step all lines before it were said
-  all_said : (step : ℕ) (rest : List LineEnd) (a b : World) → IsTrue (rise_from step rest) → (at : AtStep job lines step rest a b) → ended_before step lines ≤ at.place
-  all_said step rest a b rise at = ended_most step lines at.place (subst (λ ls. IsTrue (rise_from step ls)) at.rest_is rise)
+  -- where the lines that remain rise from a later step all lines before that were said
+  all_said : (step later : ℕ) (rest : List LineEnd) (a b : World) → IsTrue (rise_from later rest) → (at : AtStep job lines step rest a b) → ended_before later lines ≤ at.place
+  all_said step later rest a b rise at = ended_most later lines at.place (subst (λ ls. IsTrue (rise_from later ls)) at.rest_is rise)
 
-  -- the last committed step is tidied up once more, or a part of that is done
-  pub tidies_last : (step : ℕ) (rest : List LineEnd) (old s t : S) → IsTrue (rise_from step rest) → Told tells old s (Turn job lines step rest (world old) (world s))
+  -- the steps of the last commit are tidied up once more, or a part of that is done
+  pub tidies_last : (step : ℕ) (rest : List LineEnd) (old s t : S) → Told tells old s (Turn job lines step rest (world old) (world s))
       → Told tells s t (Ran (TidiedLast job.steps step (now (world s))) (world s) (world t)) → Told tells old t (Turn job lines step rest (world old) (world t))
-  tidies_last step rest old s t rise so_far tidies = record {
+  tidies_last step rest old s t so_far tidies = record {
     before = λ tells_t. so_far.before (tidies.before tells_t);
     did = λ tells_t.
         let tells_s : IsTrue (tells s) = tidies.before tells_t in
         let turn = so_far.did tells_s in (
           tidied_at job lines plan (world old) (law old (so_far.before tells_s)) step rest (world s) (world t) (law s tells_s) turn.0
-              (all_said step rest (world old) (world s) rise turn.0) (tidies.did tells_t),
+              (tidies.did tells_t),
           turn.1,
         );
   }
@@ -369,67 +357,71 @@ module _ {S : Type 0} (tells : S → Bool) (world : S → World) (law : (s : S) 
     | inl some ↦
         let turn = so_far.did tells_s in
         let upto = turn.0.upto in
-        let within : step - 1 < length job.steps = omega (arith, some, upto) in
-        let own = last_paid job plan.well_formed step upto paid (now (world old)).folder (world s) (world t) some counted (λ sound. (turn.0.sound sound).holds) costs in
-        let more = calls_of_one_more job (step - 1) within in
-        let all : step - 1 + 1 ≡ step = omega (arith, some) in
-        subst (λ n. (world t).clock ≤ (world s).clock + calls_before job n) all (omega (arith, own, more))
+        let found = costs.few some upto in
+        let k : ℕ = found.0 in
+        let is = found.1 in
+        let below = is.within in
+        let own = last_paid job plan.well_formed step upto paid (step - (k + 1)) k (now (world old)).folder (world s) (world t) is counted
+        (λ sound. (turn.0.sound sound).holds) found.2 in
+        let more = calls_of_one_more job k (omega (arith, below, upto)) in
+        let all : k + 1 + (step - (k + 1)) ≡ step = omega (arith, below) in
+        let behind = calls_least job (k + 1) (step - (k + 1)) (omega (arith, below, upto)) in
+        subst (λ n. (world t).clock ≤ (world s).clock + calls_before job n) all (omega (arith, own, more, behind))
     | inr none ↦ let idle = costs.none (omega (arith, none)) in omega (arith, idle)
   ]
 
-  -- a step is taken, or stops the run
-  pub stops_step : (step : ℕ) (rest : List LineEnd) (finish : Finish) (old s t : S) → step < length job.steps
-      → IsTrue (rise_from step rest) → Told tells old s (Turn job lines step rest (world old) (world s))
-      → Told tells s t (TakesStep job step (Err finish) (world s) (world t)) → Told tells old t (RunsSteps job lines finish (world old) (world t))
-  stops_step step rest finish old s t within rise so_far takes = record {
-    before = λ tells_t. so_far.before (takes.before tells_t);
-    did = λ tells_t.
-        let tells_s : IsTrue (tells s) = takes.before tells_t in
-        let tells_old : IsTrue (tells old) = so_far.before tells_s in
-        let turn = so_far.did tells_s in
-        let took = takes.did tells_t in
-        let said_all : ended_before step lines ≤ turn.0.place = all_said step rest (world old) (world s) rise turn.0 in
-        let shape : IsShape job.steps lines (present (now (world old)).folder) (present (now (world t)).folder) (since job lines plan (world old) (law old tells_old) step rest (world s) turn.0) =
-        shape_of job lines plan (world old) (law old tells_old) step rest (world s) turn.0 (present (now (world t)).folder)
-        (same_at job lines plan (world old) (law old tells_old) step rest (world s) turn.0 (world t) (Err finish) said_all took (now (world t))
-        (ran_end (world s) (world t) (λ m. IsTaking (length job.steps) step (now (world s)).folder m.folder) took.run)) in
-        let held : AreSound job (now (world old)).folder → HoldsStep job step (Err finish) (world s) (world t) =
-        λ sound. took.holds (turn.0.sound sound).holds in
-        by_stop job lines finish (world old) (world t) (taking job lines plan (world old) (law old tells_old) step rest (world s) turn.0 (world t) (Err finish) said_all took) turn.1 took.stops
-        (λ sound. (held sound).err)
-        (λ f at e. record {
-          front = since job lines plan (world old) (law old tells_old) step rest (world s) turn.0;
-          said_is = took.run.station.said_is ∙ turn.0.said_is;
-          whole = inr shape;
-          place = inr (met_at_first job lines plan (world old) (law old tells_old) step rest (world s) turn.0 f at (world t)
-              (present_count (now (world s)).folder step (law s tells_s) turn.0.ready) (took.damaged f at e));
-        })
-        (λ k e. record {
-          front = since job lines plan (world old) (law old tells_old) step rest (world s) turn.0;
-          said_is = took.run.station.said_is ∙ turn.0.said_is;
-          whole = shape;
-          spent = subst (IsSpentStep job (now (world old)).folder) (sym (took.spent k e).0)
-              (record { within = within; joined = (took.spent k e).1; work = λ sound. (held sound).spent k e });
-        });
-  }
+  -- steps are taken, or stop the run
+  module _ (step until : ℕ) (rest : List LineEnd) (old s t : S) (within : step < until) (upto : until ≤ length job.steps)
+      (none : IsTrue (rise_from (until - 1) rest)) (so_far : Told tells old s (Turn job lines step rest (world old) (world s))) where
+    pub stops_step : (finish : Finish) → Told tells s t (TakesSteps job step until (Err finish) (world s) (world t))
+        → Told tells old t (RunsSteps job lines finish (world old) (world t))
+    stops_step finish takes = record {
+      before = λ tells_t. so_far.before (takes.before tells_t);
+      did = λ tells_t.
+          let tells_s : IsTrue (tells s) = takes.before tells_t in
+          let tells_old : IsTrue (tells old) = so_far.before tells_s in
+          let turn = so_far.did tells_s in
+          let took = takes.did tells_t in
+          let said_all : ended_before (until - 1) lines ≤ turn.0.place = all_said step (until - 1) rest (world old) (world s) none turn.0 in
+          let shape : IsShape job.steps lines (present (now (world old)).folder) (present (now (world t)).folder) (since job lines plan (world old) (law old tells_old) step rest (world s) turn.0) =
+          shape_of job lines plan (world old) (law old tells_old) step rest (world s) turn.0 (present (now (world t)).folder)
+          (same_at job lines plan (world old) (law old tells_old) step rest (world s) turn.0 (world t) until (Err finish) said_all took (now (world t))
+          (ran_end (world s) (world t) (λ m. IsTaking (length job.steps) step until (now (world s)).folder m.folder) took.run)) in
+          let held : AreSound job (now (world old)).folder → HoldsSteps job step (Err finish) (world s) (world t) =
+          λ sound. took.holds (turn.0.sound sound).holds in
+          by_stop job lines finish (world old) (world t)
+          (taking job lines plan (world old) (law old tells_old) step rest (world s) turn.0 (world t) until (Err finish) said_all took) turn.1 took.stops
+          (λ sound. (held sound).err)
+          (λ f at e. record {
+            front = since job lines plan (world old) (law old tells_old) step rest (world s) turn.0;
+            said_is = took.run.station.said_is ∙ turn.0.said_is;
+            whole = inr shape;
+            place = inr (met_at_first job lines plan (world old) (law old tells_old) step rest (world s) turn.0 f at (world t)
+                (present_count (now (world s)).folder step (law s tells_s) turn.0.ready) (took.damaged f at e));
+          })
+          (λ k e. record {
+            front = since job lines plan (world old) (law old tells_old) step rest (world s) turn.0;
+            said_is = took.run.station.said_is ∙ turn.0.said_is;
+            whole = shape;
+            spent = subst (IsSpentStep job (now (world old)).folder) (sym (took.spent k e).0)
+                (record { within = omega (arith, within, upto); joined = (took.spent k e).1; work = λ sound. (held sound).spent k e });
+          });
+    }
 
-  pub takes_step : (step : ℕ) (rest : List LineEnd) (e : Entry) (old s t : S) → step < length job.steps → IsTrue (rise_from step rest)
-      → Told tells old s (Turn job lines step rest (world old) (world s))
-      → Told tells s t (TakesStep job step (Ok e) (world s) (world t)) → Told tells old t (Taken job lines step rest e (world old) (world t))
-  takes_step step rest e old s t within rise so_far takes = told_then tells old s t _ _ _ so_far takes (λ tells_old turn took.
-      let both = has_taken job lines plan (world old) (law old tells_old) step rest (world s) turn.0 e (world t) within (all_said step rest (world old) (world s) rise turn.0) took in
-      ((both.0, turn.1), both.1))
+    pub takes_step : (e : Entry) → Told tells s t (TakesSteps job step until (Ok e) (world s) (world t))
+        → Told tells old t (Taken job lines rest e (world old) (world t))
+    takes_step e takes = told_then tells old s t _ _ _ so_far takes (λ tells_old turn took.
+        let both = has_taken job lines plan (world old) (law old tells_old) step rest (world s) turn.0 e (world t) until upto
+        (all_said step (until - 1) rest (world old) (world s) none turn.0) took in
+        ((both.0, turn.1), both.1))
 
   pub is_ready : (step : ℕ) (rest : List LineEnd) (old s : S) → Told tells old s (Turn job lines step rest (world old) (world s)) → IsTrue (tells s) → IsReady step (now (world s)).folder
   is_ready step rest old s so_far tells_s = (so_far.did tells_s).0.ready
 
   -- lines are said, or stop the run
-  module _ (step count : ℕ) (rest : List LineEnd) (e : Entry) (number : e.number ≡ step) (old s t : S) (inside : count ≤ length rest)
-      (front : IsTrue (list_all (λ (l : LineEnd). nat_lt l.last (step + 1)) (take count rest)))
-      (shows : IsTrue (list_all (λ (l : LineEnd). nat_lt l.shows (step + 1)) (take count rest))) (so_far : Told tells old s (Taken job lines step rest e (world old) (world s))) where
-    entry : (a b : World) → Taken job lines step rest e a b → AreSound job (now a).folder → IsEntryOfStep job e.number e
-    entry a b taken sound = subst (λ k. IsEntryOfStep job k e) (sym number) (taken.1 sound)
-
+  module _ (count : ℕ) (rest : List LineEnd) (e : Entry) (old s t : S) (inside : count ≤ length rest)
+      (front : IsTrue (list_all (λ (l : LineEnd). nat_lt l.last (e.number + 1)) (take count rest)))
+      (shows : IsTrue (list_all (λ (l : LineEnd). nat_lt l.shows (e.number + 1)) (take count rest))) (so_far : Told tells old s (Taken job lines rest e (world old) (world s))) where
     pub stops_lines : (finish : Finish) → Told tells s t (SaysLines job.steps (e.number + 1) (take count rest) e (Err finish) (world s) (world t))
         → Told tells old t (RunsSteps job lines finish (world old) (world t))
     stops_lines finish says = record {
@@ -439,34 +431,31 @@ module _ {S : Type 0} (tells : S → Bool) (world : S → World) (law : (s : S) 
           let tells_old : IsTrue (tells old) = so_far.before tells_s in
           let taken = so_far.did tells_s in
           let at = taken.0.0 in
-          let by_step : SaysLines job.steps (step + 1) (take count rest) e (Err finish) (world s) (world t) =
-          subst (λ k. SaysLines job.steps (k + 1) (take count rest) e (Err finish) (world s) (world t)) number (says.did tells_t) in
+          let said_them : SaysLines job.steps (e.number + 1) (take count rest) e (Err finish) (world s) (world t) = says.did tells_t in
           by_stop job lines finish (world old) (world t)
-          (says_lines job lines plan (world old) (law old tells_old) (step + 1) count rest e (world s) (world t) (Err finish) at inside front shows (entry (world old) (world s) taken) by_step)
-          taken.0.1 (say_stops finish by_step.stops)
-          (λ sound. (by_step.holds job plan.well_formed refl (at.sound sound).holds (entry (world old) (world s) taken sound)).err)
+          (says_lines job lines plan (world old) (law old tells_old) (e.number + 1) count rest e (world s) (world t) (Err finish) at inside front shows taken.1 said_them)
+          taken.0.1 (say_stops finish said_them.stops)
+          (λ sound. (said_them.holds job plan.well_formed refl (at.sound sound).holds (taken.1 sound)).err)
           (λ f place same.
-          let stopped = by_step.damaged f place same in
-          let behind = whole_behind job lines plan (world old) (law old tells_old) (step + 1) count rest e (world s) (world t) (Err finish) at inside front shows
-          (entry (world old) (world s) taken) by_step stopped.1 in
+          let stopped = said_them.damaged f place same in
+          let behind = whole_behind job lines plan (world old) (law old tells_old) (e.number + 1) count rest e (world s) (world t) (Err finish) at inside front shows
+          taken.1 said_them stopped.1 in
           record {
             front = behind.0;
             said_is = behind.1;
             whole = inr behind.2;
-            place = inr (inl (damaged_at_first job lines plan (world old) (law old tells_old) (step + 1) rest (world s) at f place
-                (present_count (now (world s)).folder (step + 1) (law s tells_s) at.ready) stopped.0));
+            place = inr (inl (damaged_at_first job lines plan (world old) (law old tells_old) (e.number + 1) rest (world s) at f place
+                (present_count (now (world s)).folder (e.number + 1) (law s tells_s) at.ready) stopped.0));
           })
-          (λ k e. absurd (never_spent finish k by_step.stops e));
+          (λ k same. absurd (never_spent finish k said_them.stops same));
     }
 
     pub said_lines : (x : Unit) → Told tells s t (SaysLines job.steps (e.number + 1) (take count rest) e (Ok x) (world s) (world t))
-        → Told tells old t (Turn job lines (step + 1) (drop count rest) (world old) (world t))
-    said_lines x says = told_then tells old s t _ _ _ so_far says (λ tells_old taken said_them.
-        let by_step : SaysLines job.steps (step + 1) (take count rest) e (Ok x) (world s) (world t) =
-        subst (λ k. SaysLines job.steps (k + 1) (take count rest) e (Ok x) (world s) (world t)) number said_them in (
-          has_said_lines job lines plan (world old) (law old tells_old) (step + 1) count rest e (world s) (world t) (Ok x) taken.0.0 inside front shows (entry (world old) (world s) taken) by_step x refl,
-          taken.0.1,
-        ))
+        → Told tells old t (Turn job lines (e.number + 1) (drop count rest) (world old) (world t))
+    said_lines x says = told_then tells old s t _ _ _ so_far says (λ tells_old taken said_them. (
+      has_said_lines job lines plan (world old) (law old tells_old) (e.number + 1) count rest e (world s) (world t) (Ok x) taken.0.0 inside front shows taken.1 said_them x refl,
+      taken.0.1,
+    ))
 
   -- the end
   pub says_done : (step : ℕ) (rest : List LineEnd) (piece : List ℕ) (result : Result Unit Failed) (old s t : S) → length job.steps ≤ step → rest ≡ [] → piece ≡ done_line
@@ -502,29 +491,36 @@ module _ {S : Type 0} (tells : S → Bool) (world : S → World) (law : (s : S) 
       → step ≡ done_at (world old) → EmptiesLast job.steps step (now (world s)).folder (now (world t)).folder → AreSound job (now (world old)).folder
       → AreEmptied job.steps (done_at (world old) - 1) step (now (world t)).folder
   emptied_at_first step rest old s t so_far tells_s is empties sound k from until gone drops_it =
+      let upto = (so_far.did tells_s).0.upto in
       let holds = ((so_far.did tells_s).0.sound sound).holds in
       let here : k ≡ step - 1 = omega (arith, from, until, is) in
+      let last : MayBeLast job.steps step (step - 1) = record {
+        planned = upto;
+        within = omega (arith, until);
+        few = omega (arith, until);
+        drops = λ j behind before. absurd (omega (arith, behind, before));
+      } in
       let found = entry_stands job step (step - 1) (now (world s)).folder holds (omega (arith, until)) in
-      (empties (omega (arith, until)) found.0 (record { entry = found.1.entry_is; number = found.1.number_is; bytes = found.2 }) found.1.kind_is).dropped gone
+      (empties (step - 1) last found.0 (record { entry = found.1.entry_is; number = found.1.number_is; bytes = found.2 }) found.1.kind_is).dropped gone
       (ap (λ i. (get_or job.steps i no_step).step) (sym here) ∙ drops_it)
 
-  -- and behind each step that is taken from there on, and its lines
-  pub emptied_on : (from step : ℕ) (e : Entry) (s t u : World) → step < length job.steps → TakesStep job step (Ok e) s t → Throughout t u (Stays (now t))
-      → AreEmptied job.steps from step (now s).folder → AreEmptied job.steps from (step + 1) (now u).folder
-  emptied_on from step e s t u within takes stays so_far k since until gone drops_it =
+  -- and behind steps that are taken from there on, and their lines
+  pub emptied_on : (from step until : ℕ) (e : Entry) (s t u : World) → until ≤ length job.steps → TakesSteps job step until (Ok e) s t
+      → Throughout t u (Stays (now t)) → AreEmptied job.steps from step (now s).folder → AreEmptied job.steps from (e.number + 1) (now u).folder
+  emptied_on from step until e s t u upto takes stays so_far k since to gone drops_it =
       subst (λ folder. (file_in folder (node_file gone)).bytes ≡ []) (sym (at_end t u (Stays (now t)) stays)) (elim (cases_lt k step) [
         | inl below ↦
-            let gone_below : gone < k = drop_below job k gone plan.well_formed (omega (arith, below, within)) drops_it in
+            let before : e.number < until = takes.reached.1 in
+            let gone_below : gone < k = drop_below job k gone plan.well_formed (omega (arith, to, before, upto)) drops_it in
             takes.still_empty gone (omega (arith, gone_below, below)) (so_far k since below gone drops_it)
-        | inr beyond ↦ takes.emptied k (omega (arith, beyond)) until gone drops_it
+        | inr beyond ↦ takes.emptied k (omega (arith, beyond)) to gone drops_it
       ])
 
 module _ {S : Type 0} (tells : S → Bool) (world : S → World) where
-  -- the entry of a step that was taken stands at its place
-  pub made_stands : (job : Job) (step : ℕ) (e : Entry) (s t : S) → e.number ≡ step
-      → Told tells s t (TakesStep job step (Ok e) (world s) (world t)) → IsTrue (tells t) → IsEntryOf e.number (present (now (world t)).folder) e
-  made_stands job step e s t number takes tells_t =
-      subst (λ k. IsEntryOf k (present (now (world t)).folder) e) (sym number) (takes.did tells_t).made.stands
+  -- the entry of the last of the steps that were taken stands at its place
+  pub made_stands : (job : Job) (step until : ℕ) (e : Entry) (s t : S) → Told tells s t (TakesSteps job step until (Ok e) (world s) (world t))
+      → IsTrue (tells t) → IsEntryOf e.number (present (now (world t)).folder) e
+  made_stands job step until e s t takes tells_t = (takes.did tells_t).last.stands
 
   -- where the turns of all steps are bounded, those of the next step are
   pub is_counted : (law : (s : S) → IsTrue (tells s) → AreFiles (now (world s)).folder) (job : Job) (lines : List LineEnd) (plan : IsPlan job lines) (step : ℕ)

@@ -1,6 +1,6 @@
 -- How many calls of the station a run makes at most.
 use Rattle.std.specs.Prelude.{◌≡◌, ◌≢◌, ◌⊎◌, ℕ, ◌+◌, ◌-◌, ◌*◌, ◌/◌, ◌<◌, Bool, true, false, cond, min, [], length}
-use Rattle.std.specs.Prelude.{sum_by}
+use Rattle.std.specs.Prelude.{take, sum_by, Result, Ok, Err}
 use Rattle.bool_tables.specs.declared.steps.Step.{Step}
 use Rattle.bool_tables.specs.declared.steps.Planned.{Planned}
 use Rattle.shelf_model.specs.Folder.{Folder}
@@ -11,6 +11,7 @@ use Rattle.sound_image.specs.Jobs.{Job, step_at}
 use Rattle.sound_image.specs.Entries.{work_of}
 use Rattle.sound_image.specs.Holds.{Holds, AreSound}
 use Rattle.sound_image.specs.Steps.{parts_end}
+use Rattle.catalogue.specs.declared.layout.Entry.{Entry}
 use Rattle.catalogue.specs.Counts.{present, count_in}
 use Rattle.step_engine.specs.LeftBehind.{most_cut}
 use Rattle.step_engine.specs.Running.{PaysRest}
@@ -19,6 +20,15 @@ use Rattle.step_engine.specs.Running.{PaysRest}
 -- for each turn of its work, one for each sixteen of these turns, which cuts a part that they took, and 22
 abbrev pub step_calls : Job → Planned → ℕ
 step_calls job p = cond (sweeps p.step) (229 * work_of job p.step + work_of job p.step / 16 + 22) 11
+
+-- those of the steps before that one
+abbrev pub calls_before : Job → ℕ → ℕ
+calls_before job step = sum_by (step_calls job) (take step job.steps)
+
+-- where steps end that were taken together: behind the one whose entry is answered, and else before that one at most
+abbrev pub taken_to : {E : Type 0} → Result Entry E → ℕ → ℕ
+taken_to (Ok e) until = e.number + 1
+taken_to (Err fault) until = until
 
 -- 9 and one for each piece of the job while it is attached, those of each step, two for each line, and the banner and
 -- the last line

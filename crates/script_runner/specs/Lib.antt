@@ -6,6 +6,7 @@ pub mod Causes
 pub mod Lean
 pub mod Running
 pub mod Anew
+pub mod Together
 pub mod StepRuns
 pub mod Calls
 pub mod Begun

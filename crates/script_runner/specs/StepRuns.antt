@@ -1,4 +1,4 @@
--- What one step of a run leaves, and what saying its lines leaves.
+-- What steps of a run that are committed together leave, and what saying their lines leaves.
 use Rattle.std.specs.Prelude.{◌≡◌, ℕ, ◌+◌, ◌*◌, ◌^◌, ◌<◌, ◌≤◌, IsTrue, List, [], ◌++◌, length, take, get_or}
 use Rattle.std.specs.Prelude.{Result, OnOk, IfOk, IfErr}
 use Rattle.std.specs.List.{flat_map}
@@ -41,18 +41,18 @@ pub record HasSteps (job : Job) (count : ℕ) (r : FileNo → List ℕ) : Type 0
   pub counts : count ≤ count_in r
   pub stored : IsTrue (is_stored r)
 
--- a job is stored, with that many steps or one more
-pub record CountsAbout (step : ℕ) (r : FileNo → List ℕ) : Type 0 where
+-- a job is stored, with that many steps at least, and so many at most
+pub record CountsAbout (step until : ℕ) (r : FileNo → List ℕ) : Type 0 where
   pub stored : IsTrue (is_stored r)
   pub no_fewer : step ≤ count_in r
-  pub no_more : count_in r ≤ step + 1
+  pub no_more : count_in r ≤ until
 
--- a step in a folder that holds the steps before it: each image keeps them, and where the step is
--- done the folder holds it too
-pub record HoldsStep (job : Job) (step : ℕ) (result : Result Entry Finish) (old new : World) : Type 0 where
+-- steps from that one on in a folder that holds those before it: each image keeps these, and where the steps are done
+-- the folder holds them too, up to the one whose entry is answered
+pub record HoldsSteps (job : Job) (step : ℕ) (result : Result Entry Finish) (old new : World) : Type 0 where
   pub images : Throughout old new (λ m. (image : Image) → IsImage m.folder image
       → HasSteps job step (bytes_in image))
-  pub ok : IfOk result (λ e. Holds job (step + 1) (now new).folder × IsEntryOfStep job step e)
+  pub ok : IfOk result (λ e. Holds job (e.number + 1) (now new).folder × IsEntryOfStep job e.number e)
   pub err : IfErr result (λ finish. ¬ (RefusesFolder finish))
   pub spent : IfErr result (λ finish. (k : ℕ) → finish ≡ RunsSpent k → 2 ^ 35 ≤ work_of job (step_at job step).step)
 
@@ -66,12 +66,12 @@ abbrev pub NamesSpent : List Planned → ℕ → Finish → Type 0
 NamesSpent steps step finish = (k : ℕ) → finish ≡ RunsSpent k
     → (k ≡ step) × IsTrue (joins (get_or steps step no_step).step)
 
--- while a step is taken in a folder with so many steps: files of other steps and of others stay, in
--- each image a job is stored with the steps before and at most this one, and the entries before it
--- stay, as they are sure and as they are read
-pub record IsTaking (steps step : ℕ) (old new : Folder) : Type 0 where
+-- while steps from that one on are taken in a folder with so many steps, none from `until` on: files of no step stay,
+-- in each image a job is stored with the steps before and at most these, and the entries before them stay, as they are
+-- sure and as they are read
+pub record IsTaking (steps step until : ℕ) (old new : Folder) : Type 0 where
   pub others : OthersAre steps old new
-  pub counts : (image : Image) → IsImage new image → CountsAbout step (bytes_in image)
+  pub counts : (image : Image) → IsImage new image → CountsAbout step until (bytes_in image)
   pub kept : (front : List ℕ) → length front ≤ 128 * step → IsKept front (file_in old catalogue)
       → IsKept front (file_in new catalogue)
   pub reads : take (128 * step) (file_in new catalogue).bytes
@@ -95,23 +95,27 @@ KeepsDiagrams steps from until old new = (k : ℕ) → k < from → NoneDrops st
 abbrev pub KeepsLater : ℕ → Folder → Folder → Type 0
 KeepsLater from old new = (f : FileNo) → from ≤ f.step → f.step < job_step → file_in new f ≡ file_in old f
 
--- a step was made, committed and tidied up, or the run stopped there
-pub record TakesStep (job : Job) (step : ℕ) (result : Result Entry Finish) (old new : World) : Type 0 where
-  pub run : Ran (λ m. IsTaking (length job.steps) step (now old).folder m.folder) old new
-  pub ready : OnOk result (IsReady (step + 1) (now new).folder)
-  pub made : IfOk result (λ e. HasEntry job.steps step e (present (now new).folder))
-  -- what the step drops is empty, and so are earlier diagrams' files that were
-  pub emptied : OnOk result (AreEmptied job.steps step (step + 1) (now new).folder)
+-- steps from that one on, none from `until` on, were made, committed together and tidied up, up to the one whose entry
+-- is answered, or the run stopped there
+pub record TakesSteps (job : Job) (step until : ℕ) (result : Result Entry Finish) (old new : World) : Type 0 where
+  pub run : Ran (λ m. IsTaking (length job.steps) step until (now old).folder m.folder) old new
+  pub reached : IfOk result (λ e. (step ≤ e.number) × (e.number < until))
+  pub ready : IfOk result (λ e. IsReady (e.number + 1) (now new).folder)
+  pub last : IfOk result (λ e. HasEntry job.steps e.number e (present (now new).folder))
+  pub made : IfOk result (λ e. (k : ℕ) → step ≤ k → k < e.number
+      → (x : Entry) × HasEntry job.steps k x (present (now new).folder))
+  -- what the steps drop is empty, and so are earlier diagrams' files that were
+  pub emptied : IfOk result (λ e. AreEmptied job.steps step (e.number + 1) (now new).folder)
   pub still_empty : OnOk result ((k : ℕ) → k < step
       → StaysEmpty (node_file k) (now old).folder (now new).folder)
-  -- those that it doesn't drop are as they were
-  pub keeps : OnOk result (KeepsDiagrams job.steps step (step + 1) (now old).folder (now new).folder)
-  -- and so are the files of the steps behind it
-  pub later : OnOk result (KeepsLater (step + 1) (now old).folder (now new).folder)
+  -- those that they don't drop are as they were
+  pub keeps : IfOk result (λ e. KeepsDiagrams job.steps step (e.number + 1) (now old).folder (now new).folder)
+  -- and so are the files of the steps behind them
+  pub later : IfOk result (λ e. KeepsLater (e.number + 1) (now old).folder (now new).folder)
   pub stops : IfErr result IsStop
   pub damaged : IfErr result (NamesMet job.n job.steps old new)
   pub spent : IfErr result (NamesSpent job.steps step)
-  pub holds : Holds job step (now old).folder → HoldsStep job step result old new
+  pub holds : Holds job step (now old).folder → HoldsSteps job step result old new
 
 -- the lines that are right for a job were said, or a front part of them
 pub record SaysRight (job : Job) (lines : List LineEnd) (result : Result Unit Finish) (old new : World) : Type 0 where

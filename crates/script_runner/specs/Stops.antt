@@ -101,9 +101,13 @@ pub record IsPaidStep (job : Job) (k : ℕ) (is_gated : Bool) (paid rest : ℕ) 
   pub shows : PayAtLeast job paid folder
   pub pays : PaysRest (step_at job k).step k (present folder) (rest - 66145)
 
--- at each moment of it a stop costs what an interval and its saving do besides; and once it was taken nothing more than
--- what paid for going on
+-- the calls that put the entries of 1,024 steps behind one another and commit them, two for each and three
+abbrev pub most_together : ℕ
+most_together = 2051
+
+-- at each moment of it, and of the drops that are committed together with it, a stop costs what an interval and its
+-- saving do besides, and what commits them; and once they were taken nothing more than what paid for going on
 pub record StepPays (job : Job) (paid rest : ℕ) (result : Result Entry Finish) (old new : World) : Type 0 where
-  pub stops : PaysThrough job paid (old.clock + (run_stop + 5 + rest)) old new
+  pub stops : PaysThrough job paid (old.clock + (run_stop + most_together + rest)) old new
   pub ends : OnOk result ((image : Image) → IsImage (now new).folder image
       → PaysAt job paid (old.clock + rest) new.clock (bytes_in image))

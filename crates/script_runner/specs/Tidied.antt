@@ -1,10 +1,11 @@
--- What tidying up the last committed step changes once more as a run begins, and what it costs.
-use Rattle.std.specs.Prelude.{◌≡◌, ◌⊎◌, ℕ, ◌+◌, ◌-◌, ◌<◌, ◌≤◌, true, cond, nat_lt, IsTrue, Option, List, [], get_or}
+-- What tidying up the steps of the last commit changes once more as a run begins, and what it costs.
+use Rattle.std.specs.Prelude.{◌≡◌, ◌⊎◌, ℕ, ◌+◌, ◌-◌, ◌<◌, ◌≤◌, true, cond, nat_lt, IsTrue, Option, List, []}
+use Rattle.std.specs.Prelude.{length, get_or}
 use Rattle.bool_tables.specs.declared.steps.Step.{Step}
 use Rattle.bool_tables.specs.declared.steps.Step.TheVariants.{Drop}
 use Rattle.bool_tables.specs.declared.steps.Planned.{Planned}
 use Rattle.shelf_model.specs.declared.file_no.FileNo.{FileNo}
-use Rattle.shelf_model.specs.Folder.{Folder, file_in, OnlyChanges}
+use Rattle.shelf_model.specs.Folder.{Folder, file_in}
 use Rattle.shelf_model.specs.World.{Moment, World, now}
 use Rattle.step_work.specs.Tuples.{sweeps}
 use Rattle.step_work.specs.Plans.{no_step}
@@ -18,19 +19,30 @@ use Rattle.sound_image.specs.Steps.{IsCutBy}
 use Rattle.sweep_core.specs.declared.checkpoint.Checkpoint.{Checkpoint}
 use Rattle.step_engine.specs.LeftBehind.{IsLastPoint, IsLeftBehind}
 use Rattle.script_runner.specs.Calls.{cut_calls}
+use Rattle.script_runner.specs.Together.{AreDrops, OnlyEmptied}
 
--- the last of so many steps
-abbrev pub last_step : List Planned → ℕ → Step
-last_step steps done = (get_or steps (done - 1) no_step).step
+-- step k of the plan
+abbrev pub planned_step : List Planned → ℕ → Step
+planned_step steps k = (get_or steps k no_step).step
 
--- a file that is cut where the last of so many committed steps is tidied up, with some next part
+-- the last commit may have had step k: the committed steps behind it are drops, and with it they are 1,024 at most
+pub record MayBeLast (steps : List Planned) (done k : ℕ) : Type 0 where
+  pub planned : done ≤ length steps
+  pub within : k < done
+  pub few : done ≤ k + 1024
+  pub drops : AreDrops steps (k + 1) done
+
+-- a file that is cut where step k is tidied up, with some next part
+abbrev pub IsCutOf : List Planned → ℕ → FileNo → Type 0
+IsCutOf steps k f = (next : ℕ) × IsCutBy (planned_step steps k) k next f
+
+-- or where the steps of the last commit are
 abbrev pub IsCutLast : List Planned → ℕ → FileNo → Type 0
-IsCutLast steps done f = (0 < done) × (next : ℕ) × IsCutBy (last_step steps done) (done - 1) next f
+IsCutLast steps done f = (k : ℕ) × MayBeLast steps done k × IsCutOf steps k f
 
 -- no other file changed, and what held no byte holds none
-pub record TidiedLast (steps : List Planned) (done : ℕ) (old m : Moment) : Type 0 where
-  pub only : OnlyChanges (IsCutLast steps done) old.folder m.folder
-  pub stays : (f : FileNo) → (file_in old.folder f).bytes ≡ [] → (file_in m.folder f).bytes ≡ []
+abbrev pub TidiedLast : List Planned → ℕ → Moment → Moment → Type 0
+TidiedLast steps done = OnlyEmptied (IsCutLast steps done)
 
 -- the next part up to which a step is tidied up once more: of fewer than sixteen turns it took no part of a run
 abbrev pub tidied_to : Entry → ℕ
@@ -40,23 +52,34 @@ tidied_to e = cond (nat_lt e.turns 16) first_run_part e.parts
 abbrev pub last_calls : Step → Entry → ℕ
 last_calls step e = cond (nat_lt e.turns 16) (cond (sweeps step) 4 1) (cut_calls true step e.parts)
 
--- the calls are 66,128 at most: none where no step is committed, and else one that reads its entry, and those of the
--- cuts where that stands whole at its place
-pub record TidyCosts (steps : List Planned) (done : ℕ) (old new : World) : Type 0 where
-  pub most : new.clock ≤ old.clock + 66128
-  pub none : done ≡ 0 → new.clock ≤ old.clock
-  pub few : (new.clock ≤ old.clock + 1) ⊎ ((e : Entry) × IsEntryOf (done - 1) (present (now old).folder) e
-      × (new.clock ≤ old.clock + (1 + last_calls (last_step steps done) e)))
+-- the calls that tidy up step k and cut so many files besides: one that reads its entry, and those of the cuts where
+-- that stands whole at its place
+abbrev pub TidiesFor : List Planned → ℕ → ℕ → World → World → Type 0
+TidiesFor steps k besides old new = (new.clock ≤ old.clock + (1 + besides))
+    ⊎ ((e : Entry) × IsEntryOf k (present (now old).folder) e
+    × (new.clock ≤ old.clock + (1 + last_calls (planned_step steps k) e + besides)))
 
--- what is emptied by the entry of the last of so many committed steps: the file of the diagram that it drops, or of a
--- step that swept what one leaves behind that went on from its last gated checkpoint
-pub record IsEmptiedBy (steps : List Planned) (done : ℕ) (e : Entry) (old new : Folder) : Type 0 where
-  pub dropped : (gone : ℕ) → last_step steps done ≡ Drop gone → (file_in new (node_file gone)).bytes ≡ []
-  pub swept : IsTrue (sweeps (last_step steps done))
-      → (last : Option Checkpoint) → IsLastPoint (done - 1) (present old) last
-      → (f : FileNo) → IsLeftBehind (done - 1) (tidied_to e) last f → (file_in new f).bytes ≡ []
+-- the calls are 67,151 at most: none where no step is committed, and else those of the first of the steps that the last
+-- commit may have had, and one for each drop behind it
+pub record TidyCosts (steps : List Planned) (done : ℕ) (old new : World) : Type 0 where
+  pub most : new.clock ≤ old.clock + 67151
+  pub none : done ≡ 0 → new.clock ≤ old.clock
+  pub few : 0 < done → done ≤ length steps
+      → (k : ℕ) × MayBeLast steps done k × TidiesFor steps k (done - (k + 1)) old new
+
+-- what is emptied by the entry of step k: the file of the diagram that it drops, or of a step that swept what one
+-- leaves behind that went on from its last gated checkpoint
+pub record IsEmptiedBy (steps : List Planned) (k : ℕ) (e : Entry) (old new : Folder) : Type 0 where
+  pub dropped : (gone : ℕ) → planned_step steps k ≡ Drop gone → (file_in new (node_file gone)).bytes ≡ []
+  pub swept : IsTrue (sweeps (planned_step steps k))
+      → (last : Option Checkpoint) → IsLastPoint k (present old) last
+      → (f : FileNo) → IsLeftBehind k (tidied_to e) last f → (file_in new f).bytes ≡ []
 
 -- so it is where such an entry stands whole at its place
+abbrev pub EmptiesBy : List Planned → ℕ → Folder → Folder → Type 0
+EmptiesBy steps k old new = (e : Entry) → IsEntryOf k (present old) e → e.kind ≡ kind_of (planned_step steps k)
+    → IsEmptiedBy steps k e old new
+
+-- of each step that the last commit may have had
 abbrev pub EmptiesLast : List Planned → ℕ → Folder → Folder → Type 0
-EmptiesLast steps done old new = 0 < done → (e : Entry) → IsEntryOf (done - 1) (present old) e
-    → e.kind ≡ kind_of (last_step steps done) → IsEmptiedBy steps done e old new
+EmptiesLast steps done old new = (k : ℕ) → MayBeLast steps done k → EmptiesBy steps k old new

@@ -22,6 +22,7 @@ mod run_source;
 mod say;
 mod step;
 mod tidy_last;
+mod together;
 
 pub use example_script::gen_script;
 pub use finish::Finish;

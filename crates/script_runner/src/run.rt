@@ -13,8 +13,8 @@ use crate::Finish;
 use crate::banner::banner_line;
 use crate::begin::begin;
 use crate::given_job::Job;
-use crate::say::{count_before, say_lines};
-use crate::step::take_step;
+use crate::say::{count_before, next_end, say_lines};
+use crate::step::take_steps;
 use crate::tidy_last::tidy_last;
 use bool_tables::Planned;
 use catalogue::AttachFault;
@@ -97,18 +97,23 @@ pub(crate) fn run_job<W: Station>(job: &Job, room: &mut [Rec], station: &mut W) 
     };
     let mut rest = job.lines.split_at(before).1;
     let mut gone_on = begun.gone_on;
-    for step in standing.done..job.steps.len() as u32 {
-        let entry = match take_step(job, step, gone_on, room, station) {
+    let steps = job.steps.len() as u32;
+    let mut step = standing.done;
+    while step < steps {
+        // No line ends within what is committed together.
+        let until = next_end(step, steps, rest);
+        let entry = match take_steps(job, step, until, gone_on, room, station) {
             Ok(entry) => entry,
             Err(finish) => return finish,
         };
-        let (ending, later) = rest.split_at(count_before(step + 1, rest));
+        step = entry.number + 1;
+        let (ending, later) = rest.split_at(count_before(step, rest));
         match say_lines(job.steps, ending, &entry, station) {
             Ok(()) => {}
             Err(finish) => return finish,
         }
         rest = later;
-        // Of the steps behind the first one nothing is gated.
+        // Of the steps behind the first ones nothing is gated.
         gone_on = false;
     }
     let Ok(()) = station.say(b"done\n") else {

@@ -1,6 +1,6 @@
 //! The lines that a run says.
-ghost use Rattle.std.specs.Prelude.{◌≡◌, ◌⊎◌, ◌+◌, ◌*◌, ◌<◌, ◌≤◌, [], ◌∷◌, IsTrue, IfOk, IfErr, length, take, drop};
-ghost use Rattle.std.specs.Prelude.{get_or, nat_le, nat_lt};
+ghost use Rattle.std.specs.Prelude.{◌≡◌, ◌⊎◌, ◌+◌, ◌-◌, ◌*◌, ◌<◌, ◌≤◌, [], ◌∷◌, IsTrue, IfOk, IfErr, length};
+ghost use Rattle.std.specs.Prelude.{take, drop, get_or, nat_le, nat_lt};
 ghost use Rattle.std.specs.List.{list_all};
 ghost use Rattle.shelf_model.specs.World.{now};
 ghost use Rattle.shelf_model.specs.Calls.{Told};
@@ -10,7 +10,7 @@ ghost use Rattle.catalogue.specs.Commits.{IsReady};
 ghost use Rattle.catalogue.specs.Entries.{IsEntryOf};
 ghost use Rattle.step_work.specs.Plans.{no_step};
 ghost use Rattle.sound_image.specs.Entries.{kind_of};
-ghost use Rattle.script_reader.specs.Lines.{rise_from};
+ghost use Rattle.script_reader.specs.Lines.{rise_from, shows_past};
 ghost use Rattle.script_runner.specs.StepRuns.{SaysLines, IsReadFault};
 ghost use Rattle.script_runner.specs.Causes.{StopHasCause};
 
@@ -35,6 +35,21 @@ pub(crate) fn count_before(step: u32, lines: &[LineEnd]) -> usize
         }
     }
     lines.len()
+}
+
+/// Behind which step the next line is said, or how many steps there are where none is left: no line is said between
+/// `step` and the one before it.
+pub(crate) fn next_end(step: u32, steps: u32, rest: &[LineEnd]) -> u32
+    requires within { step < steps }
+    requires rise { IsTrue (rise_from step rest.now) }
+    requires shown { IsTrue (list_all (shows_past steps) rest.now) }
+    ensures within { (step < result) × (result ≤ steps) }
+    ensures none { IsTrue (rise_from (result - 1) rest.now) }
+{
+    match rest.first() {
+        Some(line) => line.last + 1,
+        None => steps,
+    }
 }
 
 /// The entry of a committed step: the one at hand, or as it is read from the folder.

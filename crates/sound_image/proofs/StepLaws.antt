@@ -105,7 +105,7 @@ holds_while_tidied job k next old new few within holds none inside tidied = hold
     not_live s live (inr (swept, own)) = let no : 1 ≤ 0 = own.from in omega (arith, no)
 
 -- a diagram that is live after the step has its file, before and after it
-live_file : (job : Job) (k s : ℕ) (folder : Folder) → k < length job.steps → Holds job k folder → IsMade job k folder
+pub live_file : (job : Job) (k s : ℕ) (folder : Folder) → k < length job.steps → Holds job k folder → IsMade job k folder
     → IsTrue (is_live (take (k + 1) job.steps) s) → file_in folder (node_file s) ≡ firm_file (file_of job s)
 live_file job k s folder within holds made live = elim (cases_lt s k) [
   | inl below ↦ holds.files s (live_earlier job.steps k s no_step within below live)
@@ -117,7 +117,7 @@ live_file job k s folder within holds made live = elim (cases_lt s k) [
 ]
 
 -- and a canonical form that is defined
-live_form : (job : Job) (k s : ℕ) (folder : Folder) → k < length job.steps → Holds job k folder → IsMade job k folder
+pub live_form : (job : Job) (k s : ℕ) (folder : Folder) → k < length job.steps → Holds job k folder → IsMade job k folder
     → IsTrue (is_live (take (k + 1) job.steps) s) → HasForm job.n (table_at job s)
 live_form job k s folder within holds made live = elim (cases_lt s k) [
   | inl below ↦ holds.forms s (live_earlier job.steps k s no_step within below live)

@@ -79,7 +79,7 @@ diagram_fits k nodes spent text p few named small took =
     }
 
 -- and those of the entry of a drop or an answer
-pub nameless_fits : (k kind answer count : ℕ) (spent : Spent) → k < most_steps → (1 ≤ kind) × (kind ≤ 3)
+pub nameless_fits : (k kind answer count : ℕ) (spent : Spent) → k < 2 ^ 32 → (1 ≤ kind) × (kind ≤ 3)
     → (answer ≡ 0) ⊎ ((answer ≡ 1) × (kind ≡ 3) × (count ≡ 0)) → count < 2 ^ 64 → IsSpent spent
     → IsEntry (nameless_entry k kind answer count spent)
 nameless_fits k kind answer count spent few kinds says small took = record {
@@ -116,7 +116,7 @@ pub for_nameless : (k kind answer count : ℕ) (spent : Spent) (p : Planned) (e 
     → IsEntryFor p.step k e
 for_nameless k kind answer count spent p e e_is few kinds says small took kind_is =
     subst (IsEntryFor p.step k) (sym e_is)
-    (record { entry_is = nameless_fits k kind answer count spent few kinds says small took; number_is = refl; kind_is = sym kind_is })
+    (record { entry_is = nameless_fits k kind answer count spent (omega (arith, few)) kinds says small took; number_is = refl; kind_is = sym kind_is })
 
 -- a turn is within the work of each step
 pub one_within : (job : Job) (step : Step) → 1 ≤ work_of job step
@@ -152,7 +152,7 @@ pub nameless_entry_is : (job : Job) (k kind answer count : ℕ) (spent : Spent) 
 nameless_entry_is job k kind answer count spent p few p_is kind_is kinds says diagram answer_is count_is small took within_work =
     let none : name_of job (step_at job k) ≡ [] = ap (name_of job) p_is ∙ ap (λ b. cond b (take p.name_len (drop p.name_at job.text)) []) diagram in
     record {
-      entry_is = nameless_fits k kind answer count spent few kinds says small took;
+      entry_is = nameless_fits k kind answer count spent (omega (arith, few)) kinds says small took;
       number_is = refl;
       kind_is = sym kind_is ∙ ap (λ (q : Planned). kind_of q.step) (sym p_is);
       answer_is = sym answer_is ∙ ap (λ (q : Planned). answer_of job q.step) (sym p_is);
@@ -241,3 +241,15 @@ only_below n x h = ltb-true x n (and_parts (nat_lt x n) true h).0
 pub handed : {T : Type 0} (result : Result T SortFault) (fault : StreamFault) (P : SortFault → Type 0) → IsErrAnd result (λ f. f ≡ handed_on fault) → P (handed_on fault) → IfErr result P
 handed (Ok x) fault P is fact = absurd is
 handed (Err f) fault P is fact = subst P (sym is) fact
+
+-- the entry of a drop can be committed for its step
+pub for_drop : (k gone : ℕ) (p : Planned) → p.step ≡ Drop gone → gone < 2 ^ 64 → k < most_steps → IsEntryFor p.step k (nameless_entry k 2 0 gone one_turn)
+for_drop k gone p drop small few =
+    for_nameless k 2 0 gone one_turn p (nameless_entry k 2 0 gone one_turn) refl few (omega arith, omega arith) (inl refl) small one_turn_spent (ap kind_of drop)
+
+-- and it is the one that the step has
+pub drop_entry_is : (job : Job) (k gone : ℕ) (p : Planned) → p.step ≡ Drop gone → gone < 2 ^ 64 → k < most_steps → step_at job k ≡ p
+    → IsEntryOfStep job k (nameless_entry k 2 0 gone one_turn)
+drop_entry_is job k gone p drop small few p_is =
+    nameless_entry_is job k 2 0 gone one_turn p few p_is (ap kind_of drop) (omega arith, omega arith) (inl refl)
+    (ap makes_diagram drop) (ap (answer_of job) drop) (ap (count_of job k) drop) small one_turn_spent (one_within job p.step)

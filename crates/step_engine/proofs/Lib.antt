@@ -15,5 +15,5 @@ mod Operands
 mod Runs
 mod Questions
 mod OneTurn
-mod Cutting
+pub mod Cutting
 mod Emptying

@@ -38,9 +38,9 @@ use Rattle.sound_image.specs.Holds.{Holds}
 use Rattle.step_engine.specs.OneFile.{OnlyFile, OnlyMade}
 use Rattle.step_engine.specs.Running.{run_calls, run_stop, IsGoneOn, RunsStep}
 use Rattle.step_engine.specs.Simple.{reads, MayRun, IsStepOf}
-use Rattle.step_engine.specs.StepEntries.{diagram_entry, nameless_entry, one_turn}
+use Rattle.step_engine.specs.StepEntries.{diagram_entry, nameless_entry, one_turn, IsEntryFor}
 use Rattle.step_engine.specs.StepFaults.{IsKindFault, IsStepFault, IsSoundFault, IsOfKind}
-use Rattle.step_engine.proofs.EntryLaws.{for_diagram, for_nameless, diagram_entry_is, nameless_entry_is, one_turn_spent, one_within, place_step, size_is_sound}
+use Rattle.step_engine.proofs.EntryLaws.{for_diagram, for_drop, diagram_entry_is, drop_entry_is, one_turn_spent, one_within, place_step, size_is_sound}
 use Rattle.step_engine.proofs.TableLaws.{constant_nodes, variable_nodes, constant_is, variable_is, constant_form, variable_form}
 use Rattle.step_engine.proofs.Resuming.{still_empty, one_resumes}
 use Rattle.step_engine.proofs.Runs.{always_made}
@@ -239,10 +239,8 @@ drop_runs tells world counts n text number gone p files_are s e drop below may e
     let content = changes_none tells world p.step number s s (told_here tells s _ (λ _. ran_stands (world s) (Stays (now (world s))) refl)) in
     record {
       content = content;
-      fits = for_nameless number 2 0 gone one_turn p e e_is may.few_steps (omega arith, omega arith) (inl refl) small one_turn_spent (ap kind_of drop);
-      entry = λ told job ready. subst (IsEntryOfStep job number) (sym e_is)
-          (nameless_entry_is job number 2 0 gone one_turn p may.few_steps ready.step.step_is (ap kind_of drop) (omega arith, omega arith) (inl refl)
-          (ap makes_diagram drop) (ap (answer_of job) drop) (ap (count_of job number) drop) small one_turn_spent (one_within job p.step));
+      fits = subst (IsEntryFor p.step number) (sym e_is) (for_drop number gone p drop small may.few_steps);
+      entry = λ told job ready. subst (IsEntryOfStep job number) (sym e_is) (drop_entry_is job number gone p drop small may.few_steps ready.step.step_is);
       made = λ told job ready diagram. absurd (
           let not : makes_diagram (step_at job number).step ≡ false = ap makes_diagram (place_step job number p (Drop gone) ready.step.step_is drop) in cc);
       untaken = λ told f free empty. empty;

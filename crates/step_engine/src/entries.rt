@@ -1,7 +1,8 @@
 //! The entries of steps.
 ghost use Rattle.std.specs.Prelude.{◌≡◌, IsTrue};
 ghost use Rattle.bool_tables.specs.Plans.{has_name};
-ghost use Rattle.step_engine.specs.StepEntries.{diagram_entry, nameless_entry, answer_entry};
+ghost use Rattle.catalogue.specs.Entries.{IsEntry};
+ghost use Rattle.step_engine.specs.StepEntries.{diagram_entry, nameless_entry, answer_entry, one_turn};
 
 use bool_tables::Planned;
 use catalogue::Entry;
@@ -64,6 +65,15 @@ pub(crate) fn nameless_entry(number: u32, kind: u8, count: u64) -> Entry
         name_len: 0,
         name: [0; 63],
     }
+}
+
+/// The entry of a drop of that step's diagram. It wants no call of the folder, so that drops can be committed together
+/// with the step before them.
+pub fn drop_entry(number: u32, gone: u32) -> Entry
+    ensures is { result ≡ nameless_entry number 2 0 gone one_turn }
+    ensures entry { IsEntry result }
+{
+    nameless_entry(number, 2, u64::from(gone))
 }
 
 /// The entry of a yes or a no, or of a value.

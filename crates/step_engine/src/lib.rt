@@ -13,5 +13,6 @@ mod step;
 mod sweeping;
 
 pub use drops::{tidy, tidy_gone_on};
+pub use entries::drop_entry;
 pub use kinds::{entry_of_kind, kind_of};
 pub use step::run_step;

@@ -4,7 +4,7 @@ ghost use Rattle.catalogue.specs.Counts.{count_in, present};
 ghost use Rattle.step_engine.specs.Simple.{MayRun};
 ghost use Rattle.step_engine.specs.Running.{RunsStep};
 
-use crate::entries::nameless_entry;
+use crate::entries::drop_entry;
 use crate::simple::{run_constant, run_size, run_variable};
 use crate::sweeping::{
     run_comparison, run_evaluation, run_implication, run_operation, sweeping_of,
@@ -56,7 +56,7 @@ pub fn run_step<S: Shelf>(
             run_implication(n, text, planned, left, right, number, room, shelf)
         }
         Step::Eval { of, at } => run_evaluation(n, text, planned, of, at, number, room, shelf),
-        Step::Drop { gone } => Ok(nameless_entry(number, 2, u64::from(gone))),
+        Step::Drop { gone } => Ok(drop_entry(number, gone)),
         _ => unreachable!(),
     }
 }

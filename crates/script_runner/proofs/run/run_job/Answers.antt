@@ -1,4 +1,4 @@
-use Rattle.std.proofs.Common.{◌≡◌, ◌≤◌, ◌<◌, ◌+◌, ◌-◌, ◌∙◌, ℕ, nat_le, nat_lt, List, [], length, take, drop, arith, sym, ap, subst, refl}
+use Rattle.std.proofs.Common.{◌≡◌, ◌≤◌, ◌+◌, ◌-◌, ◌∙◌, ℕ, nat_le, List, [], length, take, drop, arith, sym, ap, subst, refl}
 use Rattle.std.proofs.lemmas.List.{length-take-le, length-drop}
 use Rattle.std.specs.Prelude.{IsTrue, Ok, Err}
 use Rattle.std.specs.List.{list_all}
@@ -27,7 +27,7 @@ use Rattle.script_runner.proofs.Paying.{unpaid, unpaid_few, none_unpaid, gated_n
 use Rattle.script_runner.proofs.Leaning.{lean_begun, lean_whole}
 use Rattle.script_runner.proofs.Beginning.{begun_gated}
 use Rattle.script_runner.proofs.Saying.{told_second}
-use Rattle.script_runner.proofs.Turns.{Turn, not_attached, refuses_job, refuses_damage, says_banner, stopped_saying, tidies_last, stops_tidying, tidying_calls, stops_step, takes_step, is_ready, made_stands, stops_lines, said_lines, says_done, is_done, emptied_at_first, emptied_on, is_counted, calls_of_one_more, calls_before_all}
+use Rattle.script_runner.proofs.Turns.{Turn, not_attached, refuses_job, refuses_damage, says_banner, stopped_saying, tidies_last, stops_tidying, tidying_calls, stops_step, takes_step, is_ready, made_stands, stops_lines, said_lines, says_done, is_done, emptied_at_first, emptied_on, is_counted, calls_before_all}
 use Rattle.script_runner.proofs.RunPaying.{PaysSoFar, spent_at, rest_few, attach_stops, banner_so_far, tidied_so_far, stopped_step, taken_step, lines_said, ends_so}
 use Rattle.script_runner.proofs.run.run_job.Goals as goal
 
@@ -76,7 +76,7 @@ loop-step-init g c =
     record {
       so_far = subst (λ (ls : List LineEnd). Told g.W.Shelf.tells c.args.station.now c.tidy_last.new.shelf (Turn job c.args.job.now.lines.now c.in-Ok.begun.standing.done ls (g.W.Shelf.world c.args.station.now) (g.W.Shelf.world c.tidy_last.new.shelf))) (sym rest)
           (tidies_last g.W.Shelf.tells g.W.Shelf.world (λ s told f. g.met.W.Shelf.files_are s told f) job c.args.job.now.lines.now plan c.in-Ok.begun.standing.done
-          (drop c.count_before-before.result c.args.job.now.lines.now) _ _ _ c.count_before-before.ensures.rest turn c.in-Ok-tidy_last.ensures.content);
+          (drop c.count_before-before.result c.args.job.now.lines.now) _ _ _ turn c.in-Ok-tidy_last.ensures.content);
       calls = λ t paid counted.
           let told_say = c.in-Ok-tidy_last.ensures.content.before t in
           let few = unpaid_few (done_at (g.W.Shelf.world c.args.station.now)) c.in-Ok.begun.standing.done paid in
@@ -136,7 +136,7 @@ returns-in_default-tidy_last-clause-content g c =
     stops_tidying g.W.Shelf.tells g.W.Shelf.world (λ s told f. g.met.W.Shelf.files_are s told f) job c.args.job.now.lines.now plan c.in-Ok.begun.standing.done
     (drop c.count_before-before.result c.args.job.now.lines.now) _ _
     (tidies_last g.W.Shelf.tells g.W.Shelf.world (λ s told f. g.met.W.Shelf.files_are s told f) job c.args.job.now.lines.now plan c.in-Ok.begun.standing.done
-    (drop c.count_before-before.result c.args.job.now.lines.now) _ _ _ c.count_before-before.ensures.rest turn c.in_default-tidy_last.ensures.content)
+    (drop c.count_before-before.result c.args.job.now.lines.now) _ _ _ turn c.in_default-tidy_last.ensures.content)
 
 pub returns-in_default-tidy_last-clause-calls : goal.returns-in_default-tidy_last-clause-calls
 returns-in_default-tidy_last-clause-calls g c t paid counted =
@@ -172,8 +172,8 @@ returns-in_default-tidy_last-clause-stops g c t paid rest_calls is =
     (banner_so_far g.W.Shelf.tells g.W.Shelf.world (λ s told f. g.met.W.Shelf.files_are s told f) job (length c.args.job.now.lines.now) c.args.job.now.bytes.now _ _ _
     (sym (length-without_budget c.args.job.now.bytes.now)) c.in-Ok.ensures.content told_mid (c.in-Ok.ensures.calls told_mid) said.ticks said.folder_is paid rest_calls is)).stops
 
-pub take_step-requires-clause-ready : goal.take_step-requires-clause-ready
-take_step-requires-clause-ready g c =
+pub take_steps-requires-clause-ready : goal.take_steps-requires-clause-ready
+take_steps-requires-clause-ready g c =
     let job : Job = job_in c.args.job.now in
     let plan = plan_in c.args.job.now in
     is_ready g.W.Shelf.tells g.W.Shelf.world (λ s told f. g.met.W.Shelf.files_are s told f) job c.args.job.now.lines.now plan c.loop-step.step c.loop-step.rest.now _ _ c.loop-step.invariant.so_far
@@ -182,88 +182,90 @@ pub returns-in-Err-clause-content : goal.returns-in-Err-clause-content
 returns-in-Err-clause-content g c =
     let job : Job = job_in c.args.job.now in
     let plan = plan_in c.args.job.now in
-    stops_step g.W.Shelf.tells g.W.Shelf.world (λ s told f. g.met.W.Shelf.files_are s told f) job c.args.job.now.lines.now plan c.loop-step.step c.loop-step.rest.now c.in-Err.finish _ _ _ c.loop-step-test.true c.loop-step.invariant.rise c.loop-step.invariant.so_far
-    c.in-Err.ensures.content
+    let within = c.next_end-until.ensures.within in
+    stops_step g.W.Shelf.tells g.W.Shelf.world (λ s told f. g.met.W.Shelf.files_are s told f) job c.args.job.now.lines.now plan c.loop-step.step c.next_end-until.result c.loop-step.rest.now _ _ _
+    within.0 within.1 c.next_end-until.ensures.none c.loop-step.invariant.so_far c.in-Err.finish c.in-Err.ensures.content
 
 pub count_before-requires : goal.count_before-requires
 count_before-requires g c = rises_earlier 0 c.loop-step.step c.loop-step.rest.now (omega arith) c.loop-step.invariant.rise
 
 pub say_lines-requires-clause-within : goal.say_lines-requires-clause-within
 say_lines-requires-clause-within g c =
-    let within : c.loop-step.step < length c.args.job.now.steps.now = c.loop-step-test.true in
-    subst (λ k. k < length c.args.job.now.steps.now) (sym c.in-Ok-take_step.ensures.number) within
+    let within = c.next_end-until.ensures.within in
+    let reached = c.in-Ok-take_steps.ensures.reached in
+    omega (arith, within, reached)
 
 pub say_lines-requires-clause-stands : goal.say_lines-requires-clause-stands
 say_lines-requires-clause-stands g c =
-    made_stands g.W.Shelf.tells g.W.Shelf.world (job_in c.args.job.now) c.loop-step.step c.in-Ok-take_step.entry _ _
-    c.in-Ok-take_step.ensures.number
-    c.in-Ok-take_step.ensures.content
+    made_stands g.W.Shelf.tells g.W.Shelf.world (job_in c.args.job.now) c.loop-step.step c.next_end-until.result c.in-Ok-take_steps.entry _ _
+    c.in-Ok-take_steps.ensures.content
 
 pub say_lines-requires-clause-shown : goal.say_lines-requires-clause-shown
 say_lines-requires-clause-shown g c =
-    let k : ℕ = c.in-Ok-take_step.entry.number in
+    let k : ℕ = c.in-Ok-take_steps.entry.number in
     let first : List LineEnd = take c.count_before.result c.loop-step.rest.now in
     subst (λ (ls : List LineEnd). IsTrue (list_all (λ (l : LineEnd). nat_le l.shows k) ls)) (sym c.split_at-in-loop-step.ensures.front)
     (shown_in_front (length c.args.job.now.steps.now) k first
     (front_passes (shows_past (length c.args.job.now.steps.now)) c.loop-step.rest.now c.count_before.result c.loop-step.invariant.shown)
-    (subst (λ j. IsTrue (list_all (λ (l : LineEnd). nat_lt l.last (j + 1)) first)) (sym c.in-Ok-take_step.ensures.number) c.count_before.ensures.front))
+    c.count_before.ensures.front)
 
 pub returns-in-Err-say_lines-clause-content : goal.returns-in-Err-say_lines-clause-content
 returns-in-Err-say_lines-clause-content g c =
     let job : Job = job_in c.args.job.now in
     let plan = plan_in c.args.job.now in
-    let e = c.in-Ok-take_step.entry in
-    let number : e.number ≡ c.loop-step.step = c.in-Ok-take_step.ensures.number in
-    let taken = takes_step g.W.Shelf.tells g.W.Shelf.world (λ s told f. g.met.W.Shelf.files_are s told f) job c.args.job.now.lines.now plan c.loop-step.step c.loop-step.rest.now e _ _ _ c.loop-step-test.true c.loop-step.invariant.rise c.loop-step.invariant.so_far
-    c.in-Ok-take_step.ensures.content in
+    let e = c.in-Ok-take_steps.entry in
+    let within = c.next_end-until.ensures.within in
+    let taken = takes_step g.W.Shelf.tells g.W.Shelf.world (λ s told f. g.met.W.Shelf.files_are s told f) job c.args.job.now.lines.now plan c.loop-step.step c.next_end-until.result c.loop-step.rest.now _ _ _
+    within.0 within.1 c.next_end-until.ensures.none c.loop-step.invariant.so_far e c.in-Ok-take_steps.ensures.content in
     let ending : c.split_at-in-loop-step.result.0.now ≡ take c.count_before.result c.loop-step.rest.now = c.split_at-in-loop-step.ensures.front in
-    let shows = below_next c.loop-step.step (take c.count_before.result c.loop-step.rest.now)
-    (shown_in_front (length c.args.job.now.steps.now) c.loop-step.step (take c.count_before.result c.loop-step.rest.now)
+    let shows = below_next e.number (take c.count_before.result c.loop-step.rest.now)
+    (shown_in_front (length c.args.job.now.steps.now) e.number (take c.count_before.result c.loop-step.rest.now)
     (front_passes (shows_past (length c.args.job.now.steps.now)) c.loop-step.rest.now c.count_before.result c.loop-step.invariant.shown) c.count_before.ensures.front) in
-    stops_lines g.W.Shelf.tells g.W.Shelf.world (λ s told f. g.met.W.Shelf.files_are s told f) job c.args.job.now.lines.now plan c.loop-step.step c.count_before.result c.loop-step.rest.now e number _ _ _ c.count_before.ensures.within c.count_before.ensures.front shows taken c.in-Err-say_lines.finish
-    (subst (λ (ls : List LineEnd). Told g.W.Shelf.tells c.take_step.new.shelf c.say_lines.new.station
-    (SaysLines c.args.job.now.steps.now (e.number + 1) ls e (Err c.in-Err-say_lines.finish) (g.W.Shelf.world c.take_step.new.shelf) (g.W.Shelf.world c.say_lines.new.station))) ending c.in-Err-say_lines.ensures.content)
+    stops_lines g.W.Shelf.tells g.W.Shelf.world (λ s told f. g.met.W.Shelf.files_are s told f) job c.args.job.now.lines.now plan c.count_before.result c.loop-step.rest.now e _ _ _ c.count_before.ensures.within c.count_before.ensures.front shows taken c.in-Err-say_lines.finish
+    (subst (λ (ls : List LineEnd). Told g.W.Shelf.tells c.take_steps.new.shelf c.say_lines.new.station
+    (SaysLines c.args.job.now.steps.now (e.number + 1) ls e (Err c.in-Err-say_lines.finish) (g.W.Shelf.world c.take_steps.new.shelf) (g.W.Shelf.world c.say_lines.new.station))) ending c.in-Err-say_lines.ensures.content)
 
 pub loop-step-preserved : goal.loop-step-preserved
 loop-step-preserved g c =
     let job : Job = job_in c.args.job.now in
     let plan = plan_in c.args.job.now in
-    let e = c.in-Ok-take_step.entry in
-    let number : e.number ≡ c.loop-step.step = c.in-Ok-take_step.ensures.number in
-    let taken = takes_step g.W.Shelf.tells g.W.Shelf.world (λ s told f. g.met.W.Shelf.files_are s told f) job c.args.job.now.lines.now plan c.loop-step.step c.loop-step.rest.now e _ _ _ c.loop-step-test.true c.loop-step.invariant.rise c.loop-step.invariant.so_far
-    c.in-Ok-take_step.ensures.content in
+    let e = c.in-Ok-take_steps.entry in
+    let within = c.next_end-until.ensures.within in
+    let taken = takes_step g.W.Shelf.tells g.W.Shelf.world (λ s told f. g.met.W.Shelf.files_are s told f) job c.args.job.now.lines.now plan c.loop-step.step c.next_end-until.result c.loop-step.rest.now _ _ _
+    within.0 within.1 c.next_end-until.ensures.none c.loop-step.invariant.so_far e c.in-Ok-take_steps.ensures.content in
     let ending : c.split_at-in-loop-step.result.0.now ≡ take c.count_before.result c.loop-step.rest.now = c.split_at-in-loop-step.ensures.front in
-    let shows = below_next c.loop-step.step (take c.count_before.result c.loop-step.rest.now)
-    (shown_in_front (length c.args.job.now.steps.now) c.loop-step.step (take c.count_before.result c.loop-step.rest.now)
+    let shows = below_next e.number (take c.count_before.result c.loop-step.rest.now)
+    (shown_in_front (length c.args.job.now.steps.now) e.number (take c.count_before.result c.loop-step.rest.now)
     (front_passes (shows_past (length c.args.job.now.steps.now)) c.loop-step.rest.now c.count_before.result c.loop-step.invariant.shown) c.count_before.ensures.front) in
-    let take_faults = c.in-Ok-take_step.ensures.causes in
+    let take_faults = c.in-Ok-take_steps.ensures.causes in
     let say_faults = c.in-Ok-say_lines.ensures.causes in
     let invariant = c.loop-step.invariant in
     let rest : c.split_at-in-loop-step.result.1.now ≡ drop c.count_before.result c.loop-step.rest.now = c.split_at-in-loop-step.ensures.back in
     record {
-      so_far = subst (λ (ls : List LineEnd). Told g.W.Shelf.tells c.args.station.now c.say_lines.new.station (Turn job c.args.job.now.lines.now (c.loop-step.step + 1) ls (g.W.Shelf.world c.args.station.now) (g.W.Shelf.world c.say_lines.new.station))) (sym rest)
-          (said_lines g.W.Shelf.tells g.W.Shelf.world (λ s told f. g.met.W.Shelf.files_are s told f) job c.args.job.now.lines.now plan c.loop-step.step c.count_before.result c.loop-step.rest.now e number _ _ _ c.count_before.ensures.within c.count_before.ensures.front shows taken _
-          (subst (λ (ls : List LineEnd). Told g.W.Shelf.tells c.take_step.new.shelf c.say_lines.new.station
-          (SaysLines c.args.job.now.steps.now (e.number + 1) ls e (Ok c.in-Ok-say_lines.field-0) (g.W.Shelf.world c.take_step.new.shelf) (g.W.Shelf.world c.say_lines.new.station))) ending c.in-Ok-say_lines.ensures.content));
+      so_far = subst (λ (ls : List LineEnd). Told g.W.Shelf.tells c.args.station.now c.say_lines.new.station (Turn job c.args.job.now.lines.now (e.number + 1) ls (g.W.Shelf.world c.args.station.now) (g.W.Shelf.world c.say_lines.new.station))) (sym rest)
+          (said_lines g.W.Shelf.tells g.W.Shelf.world (λ s told f. g.met.W.Shelf.files_are s told f) job c.args.job.now.lines.now plan c.count_before.result c.loop-step.rest.now e _ _ _ c.count_before.ensures.within c.count_before.ensures.front shows taken _
+          (subst (λ (ls : List LineEnd). Told g.W.Shelf.tells c.take_steps.new.shelf c.say_lines.new.station
+          (SaysLines c.args.job.now.steps.now (e.number + 1) ls e (Ok c.in-Ok-say_lines.field-0) (g.W.Shelf.world c.take_steps.new.shelf) (g.W.Shelf.world c.say_lines.new.station))) ending c.in-Ok-say_lines.ensures.content));
       calls = λ t paid counted.
           let told_take = c.in-Ok-say_lines.ensures.content.before t in
-          let told_before = c.in-Ok-take_step.ensures.content.before told_take in
+          let told_before = c.in-Ok-take_steps.ensures.content.before told_take in
           let before = invariant.calls told_before paid counted in
-          let took = c.in-Ok-take_step.ensures.calls told_take (unpaid (done_at (g.W.Shelf.world c.args.station.now)) c.loop-step.step paid)
+          let took = c.in-Ok-take_steps.ensures.calls told_take (unpaid (done_at (g.W.Shelf.world c.args.station.now)) c.loop-step.step paid)
           (is_counted g.W.Shelf.tells g.W.Shelf.world (λ s told f. g.met.W.Shelf.files_are s told f) job c.args.job.now.lines.now plan c.loop-step.step c.loop-step.rest.now c.loop-step.gone_on _ _ paid
           c.loop-step-test.true invariant.so_far told_before (λ sound. invariant.gated told_before sound c.loop-step-test.true) counted) in
-          let paid_all = none_unpaid (done_at (g.W.Shelf.world c.args.station.now)) c.loop-step.step paid (invariant.so_far.did told_before).0.reached in
-          let one_more = calls_of_one_more job c.loop-step.step c.loop-step-test.true in
+          let reached = (invariant.so_far.did told_before).0.reached in
+          let from = c.in-Ok-take_steps.ensures.reached in
+          let paid_all = none_unpaid (done_at (g.W.Shelf.world c.args.station.now)) e.number paid (omega (arith, reached, from)) in
           let said_them = c.in-Ok-say_lines.ensures.calls t in
           let spoken : length c.split_at-in-loop-step.result.0.now ≡ c.count_before.result =
           ap length ending ∙ length-take-le c.count_before.result c.loop-step.rest.now c.count_before.ensures.within in
           let left : length c.split_at-in-loop-step.result.1.now ≡ length c.loop-step.rest.now - c.count_before.result =
           ap length rest ∙ length-drop c.count_before.result c.loop-step.rest.now in
           let few = c.count_before.ensures.within in
-          omega (arith, before, took, one_more, said_them, spoken, left, few, paid_all);
+          omega (arith, before, took, said_them, spoken, left, few, paid_all);
       paid = λ t paid rest_calls is.
           let told_take = c.in-Ok-say_lines.ensures.content.before t in
-          let told_before = c.in-Ok-take_step.ensures.content.before told_take in
+          let told_before = c.in-Ok-take_steps.ensures.content.before told_take in
           let at = (invariant.so_far.did told_before).0 in
           let left_few : length c.loop-step.rest.now ≤ length c.args.job.now.lines.now = rest_few at.place c.args.job.now.lines.now c.loop-step.rest.now at.rest_is in
           let spoken : length c.split_at-in-loop-step.result.0.now ≡ c.count_before.result =
@@ -272,34 +274,35 @@ loop-step-preserved g c =
           ap length rest ∙ length-drop c.count_before.result c.loop-step.rest.now in
           let taken_so = taken_step g.W.Shelf.tells g.W.Shelf.world (λ s told f. g.met.W.Shelf.files_are s told f) job (length c.args.job.now.lines.now) plan.well_formed c.loop-step.step
           (length c.loop-step.rest.now) c.loop-step-test.true _ _ _ (invariant.so_far.before told_before) at.reached at.made.keeps at.made.later
-          (λ sound. (at.sound sound).holds) c.loop-step.gone_on (λ sound. invariant.gated told_before sound c.loop-step-test.true) (c.in-Ok-take_step.ensures.content.did told_take).run.moments.past paid rest_calls is (invariant.paid told_before paid rest_calls is)
-          (Ok e) (c.in-Ok-take_step.ensures.stops told_take) e refl in
-          subst (λ n. PaysSoFar job paid (spent_at (length job.bytes) (length c.args.job.now.lines.now) n (done_at (g.W.Shelf.world c.args.station.now)) (c.loop-step.step + 1) rest_calls)
+          (λ sound. (at.sound sound).holds) c.loop-step.gone_on (λ sound. invariant.gated told_before sound c.loop-step-test.true) (c.in-Ok-take_steps.ensures.content.did told_take).run.moments.past paid rest_calls is (invariant.paid told_before paid rest_calls is)
+          (Ok e) (c.in-Ok-take_steps.ensures.stops told_take) e refl c.in-Ok-take_steps.ensures.reached.0 in
+          subst (λ n. PaysSoFar job paid (spent_at (length job.bytes) (length c.args.job.now.lines.now) n (done_at (g.W.Shelf.world c.args.station.now)) (e.number + 1) rest_calls)
           rest_calls (g.W.Shelf.world c.args.station.now) (g.W.Shelf.world c.say_lines.new.station)) (sym left)
-          (lines_said g.W.Shelf.tells g.W.Shelf.world (λ s told f. g.met.W.Shelf.files_are s told f) job (length c.args.job.now.lines.now) (c.loop-step.step + 1) (length c.loop-step.rest.now) c.count_before.result
+          (lines_said g.W.Shelf.tells g.W.Shelf.world (λ s told f. g.met.W.Shelf.files_are s told f) job (length c.args.job.now.lines.now) (e.number + 1) (length c.loop-step.rest.now) c.count_before.result
           (done_at (g.W.Shelf.world c.args.station.now)) _ _ _ (invariant.so_far.before told_before) (c.in-Ok-say_lines.ensures.content.did t).files
           (let few = c.in-Ok-say_lines.ensures.calls t in omega (arith, few, spoken)) c.count_before.ensures.within left_few paid rest_calls is taken_so);
-      gated = λ t sound within.
-          let told_before = c.in-Ok-take_step.ensures.content.before (c.in-Ok-say_lines.ensures.content.before t) in
+      gated = λ t sound behind.
+          let told_before = c.in-Ok-take_steps.ensures.content.before (c.in-Ok-say_lines.ensures.content.before t) in
           let reached = (invariant.so_far.did told_before).0.reached in
+          let from = c.in-Ok-take_steps.ensures.reached in
           none_behind_first job (now (g.W.Shelf.world c.args.station.now)).folder (λ f. g.met.W.Shelf.files_are c.args.station.now (invariant.so_far.before told_before) f) sound
-          (c.loop-step.step + 1) (omega (arith, reached)) within;
+          (e.number + 1) (omega (arith, reached, from)) behind;
       emptied = λ t sound.
           let told_take = c.in-Ok-say_lines.ensures.content.before t in
-          let told_before = c.in-Ok-take_step.ensures.content.before told_take in
+          let told_before = c.in-Ok-take_steps.ensures.content.before told_take in
           emptied_on g.W.Shelf.tells g.W.Shelf.world (λ s told f. g.met.W.Shelf.files_are s told f) job c.args.job.now.lines.now plan
-          (done_at (g.W.Shelf.world c.args.station.now) - 1) c.loop-step.step e _ _ _ c.loop-step-test.true (c.in-Ok-take_step.ensures.content.did told_take)
+          (done_at (g.W.Shelf.world c.args.station.now) - 1) c.loop-step.step c.next_end-until.result e _ _ _ within.1 (c.in-Ok-take_steps.ensures.content.did told_take)
           (c.in-Ok-say_lines.ensures.content.did t).files (invariant.emptied told_before sound);
       lean = λ t sound first.
           let told_take = c.in-Ok-say_lines.ensures.content.before t in
-          let told_before = c.in-Ok-take_step.ensures.content.before told_take in
+          let told_before = c.in-Ok-take_steps.ensures.content.before told_take in
           let at = (invariant.so_far.did told_before).0 in
-          subst (IsLean job (c.loop-step.step + 1))
-          (sym (at_end _ _ (Stays (now (g.W.Shelf.world c.take_step.new.shelf))) (c.in-Ok-say_lines.ensures.content.did t).files))
-          (c.in-Ok-take_step.ensures.lean told_take (at.sound sound).holds
+          subst (IsLean job (e.number + 1))
+          (sym (at_end _ _ (Stays (now (g.W.Shelf.world c.take_steps.new.shelf))) (c.in-Ok-say_lines.ensures.content.did t).files))
+          (c.in-Ok-take_steps.ensures.lean told_take (at.sound sound).holds
           (gated_now job c.loop-step.gone_on c.loop-step.step (now (g.W.Shelf.world c.args.station.now)).folder _ plan.well_formed c.loop-step-test.true
           at.made.later (invariant.gated told_before sound c.loop-step-test.true)) (invariant.lean told_before sound first));
-      rise = subst (λ (ls : List LineEnd). IsTrue (rise_from (c.loop-step.step + 1) ls)) (sym rest) c.count_before.ensures.rest;
+      rise = subst (λ (ls : List LineEnd). IsTrue (rise_from (e.number + 1) ls)) (sym rest) c.count_before.ensures.rest;
       shown = subst (λ (ls : List LineEnd). IsTrue (list_all (shows_past (length c.args.job.now.steps.now)) ls)) (sym rest)
           (rest_passes (shows_past (length c.args.job.now.steps.now)) c.loop-step.rest.now c.count_before.result invariant.shown);
       folder_later = let a = take_faults.folder_later in let b = say_faults.folder_later in let e = invariant.folder_later in omega (arith, a, b, e);
@@ -368,27 +371,25 @@ returns-in-Err-clause-calls g c t paid counted =
     let took = c.in-Err.ensures.calls t (unpaid (done_at (g.W.Shelf.world c.args.station.now)) c.loop-step.step paid)
     (is_counted g.W.Shelf.tells g.W.Shelf.world (λ s told f. g.met.W.Shelf.files_are s told f) job c.args.job.now.lines.now plan c.loop-step.step c.loop-step.rest.now c.loop-step.gone_on _ _ paid
     c.loop-step-test.true c.loop-step.invariant.so_far told_before (λ sound. c.loop-step.invariant.gated told_before sound c.loop-step-test.true) counted) in
-    let one_more = calls_of_one_more job c.loop-step.step c.loop-step-test.true in
-    let no_more = calls_before_all job (c.loop-step.step + 1) in
-    omega (arith, before, took, one_more, no_more)
+    let no_more = calls_before_all job c.next_end-until.result in
+    omega (arith, before, took, no_more)
 
 pub returns-in-Err-say_lines-clause-calls : goal.returns-in-Err-say_lines-clause-calls
 returns-in-Err-say_lines-clause-calls g c t paid counted =
     let job : Job = job_in c.args.job.now in
     let plan = plan_in c.args.job.now in
     let told_take = c.in-Err-say_lines.ensures.content.before t in
-    let told_before = c.in-Ok-take_step.ensures.content.before told_take in
+    let told_before = c.in-Ok-take_steps.ensures.content.before told_take in
     let before = c.loop-step.invariant.calls told_before paid counted in
-    let took = c.in-Ok-take_step.ensures.calls told_take (unpaid (done_at (g.W.Shelf.world c.args.station.now)) c.loop-step.step paid)
+    let took = c.in-Ok-take_steps.ensures.calls told_take (unpaid (done_at (g.W.Shelf.world c.args.station.now)) c.loop-step.step paid)
     (is_counted g.W.Shelf.tells g.W.Shelf.world (λ s told f. g.met.W.Shelf.files_are s told f) job c.args.job.now.lines.now plan c.loop-step.step c.loop-step.rest.now c.loop-step.gone_on _ _ paid
     c.loop-step-test.true c.loop-step.invariant.so_far told_before (λ sound. c.loop-step.invariant.gated told_before sound c.loop-step-test.true) counted) in
-    let one_more = calls_of_one_more job c.loop-step.step c.loop-step-test.true in
-    let no_more = calls_before_all job (c.loop-step.step + 1) in
+    let no_more = calls_before_all job (c.in-Ok-take_steps.entry.number + 1) in
     let said_them = c.in-Err-say_lines.ensures.calls t in
     let spoken : length c.split_at-in-loop-step.result.0.now ≡ c.count_before.result =
     ap length c.split_at-in-loop-step.ensures.front ∙ length-take-le c.count_before.result c.loop-step.rest.now c.count_before.ensures.within in
     let few = c.count_before.ensures.within in
-    omega (arith, before, took, one_more, no_more, said_them, spoken, few)
+    omega (arith, before, took, no_more, said_them, spoken, few)
 
 pub returns-in_default-say-clause-calls : goal.returns-in_default-say-clause-calls
 returns-in_default-say-clause-calls g c t paid counted =
@@ -444,19 +445,19 @@ pub returns-in-Err-say_lines-clause-stops : goal.returns-in-Err-say_lines-clause
 returns-in-Err-say_lines-clause-stops g c t paid rest_calls is =
     let job : Job = job_in c.args.job.now in
     let plan = plan_in c.args.job.now in
-    let e = c.in-Ok-take_step.entry in
+    let e = c.in-Ok-take_steps.entry in
     let invariant = c.loop-step.invariant in
     let told_take = c.in-Err-say_lines.ensures.content.before t in
-    let told_before = c.in-Ok-take_step.ensures.content.before told_take in
+    let told_before = c.in-Ok-take_steps.ensures.content.before told_take in
     let at = (invariant.so_far.did told_before).0 in
     let left_few : length c.loop-step.rest.now ≤ length c.args.job.now.lines.now = rest_few at.place c.args.job.now.lines.now c.loop-step.rest.now at.rest_is in
     let spoken : length c.split_at-in-loop-step.result.0.now ≡ c.count_before.result =
     ap length c.split_at-in-loop-step.ensures.front ∙ length-take-le c.count_before.result c.loop-step.rest.now c.count_before.ensures.within in
     let taken_so = taken_step g.W.Shelf.tells g.W.Shelf.world (λ s told f. g.met.W.Shelf.files_are s told f) job (length c.args.job.now.lines.now) plan.well_formed c.loop-step.step
     (length c.loop-step.rest.now) c.loop-step-test.true _ _ _ (invariant.so_far.before told_before) at.reached at.made.keeps at.made.later
-    (λ sound. (at.sound sound).holds) c.loop-step.gone_on (λ sound. invariant.gated told_before sound c.loop-step-test.true) (c.in-Ok-take_step.ensures.content.did told_take).run.moments.past paid rest_calls is (invariant.paid told_before paid rest_calls is)
-    (Ok e) (c.in-Ok-take_step.ensures.stops told_take) e refl in
-    (lines_said g.W.Shelf.tells g.W.Shelf.world (λ s told f. g.met.W.Shelf.files_are s told f) job (length c.args.job.now.lines.now) (c.loop-step.step + 1) (length c.loop-step.rest.now) c.count_before.result
+    (λ sound. (at.sound sound).holds) c.loop-step.gone_on (λ sound. invariant.gated told_before sound c.loop-step-test.true) (c.in-Ok-take_steps.ensures.content.did told_take).run.moments.past paid rest_calls is (invariant.paid told_before paid rest_calls is)
+    (Ok e) (c.in-Ok-take_steps.ensures.stops told_take) e refl c.in-Ok-take_steps.ensures.reached.0 in
+    (lines_said g.W.Shelf.tells g.W.Shelf.world (λ s told f. g.met.W.Shelf.files_are s told f) job (length c.args.job.now.lines.now) (e.number + 1) (length c.loop-step.rest.now) c.count_before.result
     (done_at (g.W.Shelf.world c.args.station.now)) _ _ _ (invariant.so_far.before told_before) (c.in-Err-say_lines.ensures.content.did t).files
     (let few = c.in-Err-say_lines.ensures.calls t in omega (arith, few, spoken)) c.count_before.ensures.within left_few paid rest_calls is taken_so).stops
 

@@ -6,14 +6,14 @@ use Rattle.shelf_model.specs.Calls.{Told}
 use Rattle.script_reader.specs.Lines.{rise_from, shows_past}
 use Rattle.file_writes.specs.Writes.{pieces}
 use Rattle.sound_image.specs.Holds.{AreSound}
-use Rattle.script_runner.specs.Calls.{IsGated, AreCounted}
+use Rattle.script_runner.specs.Calls.{calls_before, IsGated, AreCounted}
 use Rattle.script_runner.specs.JobOf.{job_in}
 use Rattle.script_runner.specs.Lean.{IsLean}
 use Rattle.script_runner.specs.Running.{AreEmptied}
 use Rattle.script_runner.specs.Stops.{IsPaidRun}
 use Rattle.script_runner.proofs.RunSteps.{done_at}
 use Rattle.script_runner.proofs.Paying.{unpaid}
-use Rattle.script_runner.proofs.Turns.{Turn, calls_before}
+use Rattle.script_runner.proofs.Turns.{Turn}
 use Rattle.script_runner.proofs.RunPaying.{PaysSoFar, spent_at}
 use Rattle.script_runner.proofs.run.run_job.Given as goal
 
@@ -45,3 +45,6 @@ invariant-loop-step g l = record {
   say_later : (g.W.Shelf.faults l.fn.station).say ≤ (g.W.Shelf.faults l.station).say;
   text_is : (path : List ℕ) → (g.W.Shelf.faults l.station).text path ≡ (g.W.Shelf.faults l.fn.station).text path;
 }
+
+abbrev pub decreases-loop-step : goal.decreases-loop-step
+decreases-loop-step g l = length l.fn.job.steps.now - l.step

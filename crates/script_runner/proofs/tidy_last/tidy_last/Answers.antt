@@ -1,21 +1,27 @@
-use Rattle.std.proofs.Common.{◌<◌, arith}
-use Rattle.script_runner.specs.Tidied.{tidied_to}
-use Rattle.script_runner.proofs.LastTidied.{read_and_tidied, read_and_tidied_calls, read_and_emptied, ok_both, read_then}
+use Rattle.std.proofs.Common.{arith}
+use Rattle.script_runner.proofs.LastTidied.{ok_then, all_tidied, tidied_calls, all_emptied}
 use Rattle.script_runner.proofs.tidy_last.tidy_last.Goals as goal
 
-pub returns-in-Ok : goal.returns-in-Ok
-returns-in-Ok g c =
-    let some : 0 < c.args.done = let is = c.if-done-eq0.false in omega (arith, is) in
-    let e = c.in-Ok.entry in
-    record {
-      content = read_and_tidied g.S.Shelf.tells g.S.Shelf.world c.args.job.now.steps.now c.args.done some e _ _ _ c.in-Ok.ensures.content c.in-Ok.ensures.ok
-          (tidied_to e) c.tidy_again.ensures.content;
-      calls = λ told.
-          let told_read = c.tidy_again.ensures.content.before told in
-          read_and_tidied_calls g.S.Shelf.tells g.S.Shelf.world c.args.job.now.steps.now c.args.done some e _ _ _ c.in-Ok.ensures.content c.in-Ok.ensures.ok
-          told_read (c.in-Ok.ensures.calls told_read) (c.tidy_again.ensures.calls told);
-      empty = ok_both c.tidy_again.result c.tidy_again.ensures.empty c.tidy_again.ensures.behind (λ empty behind told some_done other is kind.
-          read_and_emptied g.S.Shelf.tells g.S.Shelf.world c.args.job.now.steps.now c.args.done some e _ _ _ c.in-Ok.ensures.content c.in-Ok.ensures.ok
-          (c.tidy_again.ensures.content.before told) other is (empty told) (behind told));
-      faults = read_then _ _ _ e c.tidy_again.result c.in-Ok.ensures.faults c.tidy_again.ensures.faults;
-    }
+pub returns-in_err-tidy_step-clause-calls : goal.returns-in_err-tidy_step-clause-calls
+returns-in_err-tidy_step-clause-calls g c told =
+    tidied_calls g.S.Shelf.tells g.S.Shelf.world c.args.job.now.steps.now c.args.done c.last_commit-first.result c.last_commit-first.ensures.is
+    c.last_commit-first.ensures.first _ _ c.in_err-tidy_step.ensures.content _ (c.in_err-tidy_step.ensures.most told)
+    (c.in_err-tidy_step.ensures.calls told) (omega arith)
+
+pub returns-clause-content : goal.returns-clause-content
+returns-clause-content g c =
+    all_tidied g.S.Shelf.tells g.S.Shelf.world c.args.job.now.steps.now c.args.done c.last_commit-first.result c.last_commit-first.ensures.is
+    c.last_commit-first.ensures.first _ _ c.in_ok-tidy_step.ensures.content _ c.empty_dropped.ensures.content
+
+pub returns-clause-calls : goal.returns-clause-calls
+returns-clause-calls g c told =
+    let told_mid = c.empty_dropped.ensures.content.before told in
+    tidied_calls g.S.Shelf.tells g.S.Shelf.world c.args.job.now.steps.now c.args.done c.last_commit-first.result c.last_commit-first.ensures.is
+    c.last_commit-first.ensures.first _ _ c.in_ok-tidy_step.ensures.content _ (c.in_ok-tidy_step.ensures.most told_mid)
+    (c.in_ok-tidy_step.ensures.calls told_mid) (c.empty_dropped.ensures.calls told)
+
+pub returns-clause-empty : goal.returns-clause-empty
+returns-clause-empty g c = ok_then c.empty_dropped.result c.empty_dropped.ensures.empty (λ dropped told.
+    all_emptied g.S.Shelf.tells g.S.Shelf.world c.args.job.now.steps.now c.args.done c.last_commit-first.result c.last_commit-first.ensures.is
+    c.last_commit-first.ensures.first _ _ c.in_ok-tidy_step.ensures.content _ c.empty_dropped.ensures.content told
+    (c.in_ok-tidy_step.ensures.empty (c.empty_dropped.ensures.content.before told)) (dropped told))
