@@ -232,7 +232,7 @@ fn goes_on_behind_a_run_over_another_netlist(rt: HostRuntime) -> Result<(), Fail
         let acts = [
             Act::Put("script", JOINED.script),
             Act::Put("netlist", JOINED.netlist),
-            Act::FailWhen(STEP_GATE, 9),
+            Act::FailWhen(STEP_GATE, 8),
             Act::Run(&NET, 7, b"start 1\n"),
             Act::Stop(Choice::Present),
             Act::Put("netlist", netlist),

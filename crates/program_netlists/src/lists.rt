@@ -6,8 +6,8 @@ use file_numbers::STEP_GATE;
 use shelf_memory::Choice;
 use std::test::Fail;
 
-/// A name, a script, and how many steps are committed at a stop of its run; what was said before, what a list says
-/// then, and what the next run says.
+/// A name, a script, and how many steps are committed at a stop of its run, with the drops that are committed together
+/// with the last of them; what was said before, what a list says then, and what the next run says.
 type Halt = (
     &'static str,
     &'static Row,
@@ -17,7 +17,9 @@ type Halt = (
     &'static [u8],
 );
 
-/// The carry is step 21 and the sum step 30 of 36; where the carry comes first, it is step 8.
+/// The carry is step 21, behind which two drops stand, and the sum step 30 of 36, behind which drops alone stand, so that
+/// the line ends with its commit; where the carry comes first, it is step 8. Behind the second of the three lines' step 3
+/// two drops end its line.
 const HALTS: [Halt; 6] = [
     (
         "the sum and the carry at 21 steps",
@@ -36,11 +38,11 @@ const HALTS: [Halt; 6] = [
         b"resume 0 of 2\n2: nodes 3\n2: nodes 2\ndone\n",
     ),
     (
-        "the sum and the carry at 31 steps",
+        "the sum and the carry at 30 steps",
         &SUM_CARRY,
-        31,
+        30,
         b"start 2\n",
-        b"carry 2\nsum 3\n",
+        b"carry 2\n",
         b"resume 0 of 2\n2: nodes 3\n2: nodes 2\ndone\n",
     ),
     (
@@ -65,7 +67,7 @@ const HALTS: [Halt; 6] = [
         4,
         b"start 3\n2: nodes 0\n",
         b"z 0\no 0\n",
-        b"resume 1 of 3\n3: nodes 0\n4: nodes 2\ndone\n",
+        b"resume 2 of 3\n4: nodes 2\ndone\n",
     ),
 ];
 

@@ -519,8 +519,19 @@ const EARLY_DROP_STOPPED: &[Act] = &[
     Act::Words(FIRST, NEVER),
 ];
 
-/// What a stop kept a run from cutting behind a step's commit is cut by the next run, unless the entry of the step
-/// isn't whole, whose kind is its fifth byte.
+/// The same of four steps, of which the third joins two diagrams.
+const JOIN_STOPPED: &[Act] = &[
+    Act::Put(
+        "script",
+        b"vars a b\nvar f a\nvar g b\nand h f g\nvar k b\n",
+    ),
+    Act::FailWhen(STEP_GATE, 3),
+    Act::Run(&RUN, 7, b"start 4\n2: nodes 1\n3: nodes 1\n"),
+    Act::Stop(Choice::Present),
+];
+
+/// What a stop kept a run from cutting behind a commit is cut by the next run. Of drops that is what they name, whatever
+/// stands in their entries, whose kind is their fifth byte.
 const LEFT: [Case; 5] = [
     (
         "a diagram that the last step drops",
@@ -541,7 +552,17 @@ const LEFT: [Case; 5] = [
         None,
     ),
     (
-        "a diagram whose drop has an entry that can't be read",
+        "a step whose entry can't be read",
+        JOIN_STOPPED,
+        &[
+            Act::FailAt(13),
+            Act::Run(&RUN, 7, b"resume 3 of 4\n"),
+            Act::Calls(14),
+        ],
+        None,
+    ),
+    (
+        "a diagram that can't be cut",
         EARLY_DROP_STOPPED,
         &[
             Act::FailAt(13),
@@ -552,22 +573,12 @@ const LEFT: [Case; 5] = [
         None,
     ),
     (
-        "a diagram that can't be cut",
-        EARLY_DROP_STOPPED,
-        &[
-            Act::FailAt(14),
-            Act::Run(&RUN, 7, b"resume 2 of 3\n"),
-            Act::Calls(15),
-        ],
-        None,
-    ),
-    (
-        "a drop whose entry has another kind",
+        "a diagram whose drop has an entry of another kind",
         EARLY_DROP_STOPPED,
         &[
             Act::Replace(CATALOGUE, 132, 133, &[3]),
             Act::Run(&RUN, 0, b"resume 2 of 3\n4: nodes 1\ndone\n"),
-            Act::Words(FIRST, NEVER),
+            Act::Length(FIRST, 0),
         ],
         None,
     ),
