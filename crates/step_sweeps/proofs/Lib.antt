@@ -25,6 +25,7 @@ mod ArcsAgain
 mod ArcsBegun
 mod WaysAnew
 mod JoinsAnew
+pub mod AtOnce
 mod MadeAnew
 mod SweptSums
 mod SweptSteps

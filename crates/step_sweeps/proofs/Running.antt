@@ -1,6 +1,6 @@
 -- Which files runs of a step's calls change, what counts of faults they leave, and what is handed on.
 use Rattle.std.proofs.Common.{◌≡◌, ◌≢◌, ◌∙◌, ℕ, ◌<◌, ◌≤◌, Bool, ap, subst, arith}
-use Rattle.std.specs.Prelude.{Option, Some, IfSome, Result, Ok, Err, IfOk, IfErr, IsErrOf}
+use Rattle.std.specs.Prelude.{Option, Some, None, IfSome, IfNone, Result, Ok, Err, IfOk, IfErr, IsErrOf}
 use Rattle.shelf_model.specs.declared.file_no.FileNo.{FileNo}
 use Rattle.shelf_model.specs.declared.sort_fault.SortFault.{SortFault}
 use Rattle.shelf_model.specs.declared.sort_fault.SortFault.TheVariants.{RunsSpent}
@@ -65,6 +65,9 @@ err_more (Err e) P Q more is = more e is
 -- what holds of what was given
 pub of_some : {A : Type 0} (o : Option A) (x : A) (P : A → Type 0) → o ≡ Some x → IfSome o P → P x
 of_some o x P is held = subst (λ q. IfSome q P) is held
+
+pub of_none : {A : Type 0} (o : Option A) (P : Type 0) → o ≡ None → IfNone o P → P
+of_none {A} o P is held = subst (λ (q : Option A). IfNone q P) is held
 
 pub of_ok : {A E : Type 0} (r : Result A E) (x : A) (P : A → Type 0) → r ≡ Ok x → IfOk r P → P x
 of_ok r x P is held = subst (λ q. IfOk q P) is held

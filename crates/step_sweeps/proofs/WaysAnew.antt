@@ -103,7 +103,7 @@ still_none number looked old mid look none =
     ap (λ (x : File). x.bytes) (looked_same looked (checkpoint_gate number) old mid look) ∙ none
 
 -- a look changes no file, and so not the step's node file either
-looked_changed : (number looked : ℕ) (old new : World) → Looked looked old new
+pub looked_changed : (number looked : ℕ) (old new : World) → Looked looked old new
     → Ran (OnlyChanged (λ q. q ≡ node_file number) (now old)) old new
 looked_changed number looked old new look =
     ran_weakens old new (Stays (now old)) (OnlyChanged (λ q. q ≡ node_file number) (now old))

@@ -5,6 +5,7 @@ pub mod Going
 pub mod Stops
 pub mod Makes
 pub mod Ways
+pub mod AtOnce
 pub mod Kinds
 pub mod Sweeping
 pub mod Ended

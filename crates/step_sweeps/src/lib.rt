@@ -4,6 +4,7 @@
 
 mod answers;
 mod arcs;
+mod at_once;
 mod confirming;
 mod copy;
 mod diagram;
@@ -18,6 +19,7 @@ mod task;
 mod unswept;
 
 pub use answers::{Answered, compare, evaluate};
+pub use at_once::{AtMost, make_at_once};
 pub use diagram::{MadeDiagram, make_diagram};
 pub use implication::imply;
 pub use task::Making;

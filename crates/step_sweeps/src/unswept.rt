@@ -96,7 +96,7 @@ pub(crate) fn complement<S: Shelf>(
 }
 
 /// A diagram of so many nodes that was made at once.
-fn made_at_once(nodes: u64) -> MadeDiagram
+pub(crate) fn made_at_once(nodes: u64) -> MadeDiagram
     requires few { nodes < 65536 }
     ensures { result ≡ record { nodes = nodes; turns = nodes + 1; next = 3 } }
 {
