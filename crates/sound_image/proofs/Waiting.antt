@@ -83,7 +83,7 @@ waiting_entry job committed until i folder waits below = elim (cases_lt i commit
 ]
 
 -- a diagram that is live behind some of the steps that wait has its file, and a canonical form that is defined
-waiting_diagram : (job : Job) (committed until count s : ℕ) (folder : Folder) → Waits job committed until folder → committed ≤ count → count ≤ until → IsTrue (is_live (take count job.steps) s)
+pub waiting_diagram : (job : Job) (committed until count s : ℕ) (folder : Folder) → Waits job committed until folder → committed ≤ count → count ≤ until → IsTrue (is_live (take count job.steps) s)
     → (file_in folder (node_file s) ≡ firm_file (file_of job s)) × HasForm job.n (table_at job s)
 waiting_diagram job committed until count s folder waits least most live =
     let few : until ≤ length job.steps = waits.few in
