@@ -15,5 +15,6 @@ mod Operands
 mod Runs
 mod Questions
 mod OneTurn
+mod AtOnce
 pub mod Cutting
 mod Emptying

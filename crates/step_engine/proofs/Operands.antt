@@ -1,5 +1,5 @@
--- What a step is given of the steps before it, where the folder holds them.
-use Rattle.std.proofs.Common.{◌≡◌, ◌∙◌, ℕ, ◌+◌, ◌*◌, ◌<◌, Bool, false, true, cond, List, [], ◌∷◌, length, map, take, refl, sym, ap, ap₂, subst}
+-- What a step is given of the steps before it, where the folder has the files of their diagrams.
+use Rattle.std.proofs.Common.{◌≡◌, ◌∙◌, ℕ, ◌+◌, ◌*◌, ◌<◌, Bool, false, true, cond, List, [], ◌∷◌, length, map, take, refl, sym, ap, ap₂, subst, arith}
 use Rattle.std.specs.Prelude.{IsTrue, Some}
 use Rattle.std.specs.List.{list_all}
 use Rattle.std.proofs.lemmas.Bool.{and_parts}
@@ -16,13 +16,16 @@ use Rattle.canon_file.specs.Canon.{canon_nodes, canon_bytes}
 use Rattle.canon_file.specs.Laws.{HasForm}
 use Rattle.shelf_model.specs.declared.file_no.FileNo.{FileNo}
 use Rattle.shelf_model.specs.File.{File, firm_file}
+use Rattle.shelf_model.specs.Folder.{Folder, file_in}
 use Rattle.shelf_model.specs.World.{World, now, file}
 use Rattle.run_tiers.specs.Syncs.{IsFirm}
 use Rattle.sound_image.specs.Files.{node_file}
 use Rattle.sound_image.specs.Jobs.{Job, step_at, table_at, nodes_at, file_of}
 use Rattle.sound_image.specs.Entries.{work_of}
 use Rattle.sound_image.specs.Holds.{Holds}
+use Rattle.sound_image.specs.Waiting.{Waits}
 use Rattle.sound_image.proofs.Live.{live_below}
+use Rattle.sound_image.proofs.Waiting.{waiting_diagram}
 use Rattle.step_work.specs.Tuples.{joins}
 use Rattle.step_work.specs.Works.{work_for, nodes_of}
 use Rattle.step_work.proofs.SameTuples.{LeadAlike, same_count}
@@ -40,44 +43,61 @@ use Rattle.step_engine.specs.Sweeping.{files_of, sweeping_of}
 use Rattle.step_engine.proofs.PlanLaws.{follows_at, operands_live}
 use Rattle.step_engine.proofs.TableLaws.{made_from}
 
--- the step is the job's, under that number, and the folder holds the steps before it
+-- the folder has the canonical file, which is defined, of each diagram that is live behind so many steps
+pub record HasDiagrams (job : Job) (number : ℕ) (folder : Folder) : Type 0 where
+  pub files : (s : ℕ) → IsTrue (is_live (take number job.steps) s)
+      → file_in folder (node_file s) ≡ firm_file (file_of job s)
+  pub forms : (s : ℕ) → IsTrue (is_live (take number job.steps) s) → HasForm job.n (table_at job s)
+
+-- so it has where these steps are committed, and where some of them are and the others wait
+pub held_diagrams : (job : Job) (number : ℕ) (folder : Folder) → Holds job number folder → HasDiagrams job number folder
+held_diagrams job number folder holds = record { files = holds.files; forms = holds.forms }
+
+pub waiting_diagrams : (job : Job) (committed number : ℕ) (folder : Folder) → Waits job committed number folder
+    → HasDiagrams job number folder
+waiting_diagrams job committed number folder waits = record {
+  files = λ s live. (waiting_diagram job committed number number s folder waits waits.from (omega arith) live).0;
+  forms = λ s live. (waiting_diagram job committed number number s folder waits waits.from (omega arith) live).1;
+}
+
+-- the step is the job's, under that number, and the folder has the diagrams that are live before it
 pub record IsHeld (job : Job) (number : ℕ) (step : Step) (world : World) : Type 0 where
   pub within : number < length job.steps
   pub step_is : (step_at job number).step ≡ step
   pub live : IsTrue (list_all (is_live (take number job.steps)) (operands step))
-  pub holds : Holds job number (now world).folder
+  pub has : HasDiagrams job number (now world).folder
 
 pub held_step : (job : Job) (n number : ℕ) (text : List ℕ) (p : Planned) (step : Step) (world : World) → IsStepOf job n text number p → p.step ≡ step
-    → Holds job number (now world).folder → IsHeld job number step world
-held_step job n number text p step world is step_is holds =
+    → HasDiagrams job number (now world).folder → IsHeld job number step world
+held_step job n number text p step world is step_is has =
     let found : (step_at job number).step ≡ step = ap (λ (q : Planned). q.step) is.step_is ∙ step_is in
     record {
       within = is.within;
       step_is = found;
       live = subst (λ s. IsTrue (list_all (is_live (take number job.steps)) (operands s))) found
           (operands_live job.n job.text (take number job.steps) (step_at job number) (follows_at job.n job.text job.steps number _ is.within is.well_formed));
-      holds = holds;
+      has = has;
     }
 
 -- the file of a live diagram is the canonical one of its table
-canonical : (job : Job) (number j : ℕ) (world : World) → Holds job number (now world).folder → IsTrue (is_live (take number job.steps) j)
+canonical : (job : Job) (number j : ℕ) (world : World) → HasDiagrams job number (now world).folder → IsTrue (is_live (take number job.steps) j)
     → IsCanonicalFile job.n (table_at job j) (node_file j) world
-canonical job number j world holds live = record { form = holds.forms j live; bytes_are = ap (λ (f : File). f.bytes) (holds.files j live) }
+canonical job number j world has live = record { form = has.forms j live; bytes_are = ap (λ (f : File). f.bytes) (has.files j live) }
 
-canonical_at : (job : Job) (n number j : ℕ) (f : FileNo) (world : World) → f ≡ node_file j → job.n ≡ n → Holds job number (now world).folder
+canonical_at : (job : Job) (n number j : ℕ) (f : FileNo) (world : World) → f ≡ node_file j → job.n ≡ n → HasDiagrams job number (now world).folder
     → IsTrue (is_live (take number job.steps) j) → IsCanonicalFile n (table_at job j) f world
-canonical_at job n number j f world f_is n_is holds live =
-    subst (λ v. v) (λ i. IsCanonicalFile (n_is i) (table_at job j) (sym f_is i) world) (canonical job number j world holds live)
+canonical_at job n number j f world f_is n_is has live =
+    subst (λ v. v) (λ i. IsCanonicalFile (n_is i) (table_at job j) (sym f_is i) world) (canonical job number j world has live)
 
 -- whatever a stop leaves
-firm : (job : Job) (number j : ℕ) (world : World) → Holds job number (now world).folder → IsTrue (is_live (take number job.steps) j) → IsFirm (file world (node_file j))
-firm job number j world holds live = holds.files j live ∙ ap (λ (f : File). firm_file f.bytes) (sym (holds.files j live))
+firm : (job : Job) (number j : ℕ) (world : World) → HasDiagrams job number (now world).folder → IsTrue (is_live (take number job.steps) j) → IsFirm (file world (node_file j))
+firm job number j world has live = has.files j live ∙ ap (λ (f : File). firm_file f.bytes) (sym (has.files j live))
 
-firm_at : (job : Job) (n number j : ℕ) (f : FileNo) (world : World) → f ≡ node_file j → job.n ≡ n → Holds job number (now world).folder
+firm_at : (job : Job) (n number j : ℕ) (f : FileNo) (world : World) → f ≡ node_file j → job.n ≡ n → HasDiagrams job number (now world).folder
     → IsTrue (is_live (take number job.steps) j) → IsFirmFile n (table_at job j) f world
-firm_at job n number j f world f_is n_is holds live = record {
-  canonical = canonical_at job n number j f world f_is n_is holds live;
-  firm = subst (λ g. IsFirm (file world g)) (sym f_is) (firm job number j world holds live);
+firm_at job n number j f world f_is n_is has live = record {
+  canonical = canonical_at job n number j f world f_is n_is has live;
+  firm = subst (λ g. IsFirm (file world g)) (sym f_is) (firm job number j world has live);
 }
 
 -- of a list of live diagrams the first, the second and the third one
@@ -141,15 +161,15 @@ module _ (job : Job) (number : ℕ) (world : World) where
       let left_live = first_live steps left (right ∷ []) is.live in
       let right_live = first_live steps right [] (more_live steps left (right ∷ []) is.live) in
       given_tables job number _ _ world (three job left right right) (record {
-        first = canonical job number left world is.holds left_live;
-        second = canonical job number right world is.holds right_live;
-        third = canonical job number right world is.holds right_live;
+        first = canonical job number left world is.has left_live;
+        second = canonical job number right world is.has right_live;
+        third = canonical job number right world is.has right_live;
         repeated = refl;
       })
       (record {
-        first = firm job number left world is.holds left_live;
-        second = firm job number right world is.holds right_live;
-        third = firm job number right world is.holds right_live;
+        first = firm job number left world is.has left_live;
+        second = firm job number right world is.has right_live;
+        third = firm job number right world is.has right_live;
       })
       (ap (λ s r. StepGoesOn job.n job.text job.steps number s r) is.step_is) (ap (λ s c f many. RestsOn s c f many) is.step_is)
       (sym (from.table_is ∙ ap (step_table job.n from.seen) is.step_is
@@ -167,15 +187,15 @@ module _ (job : Job) (number : ℕ) (world : World) where
       let if_one_live = first_live steps if_one (if_zero ∷ []) more in
       let if_zero_live = first_live steps if_zero [] (more_live steps if_one (if_zero ∷ []) more) in
       given_tables job number _ _ world (three job test if_one if_zero) (record {
-        first = canonical job number test world is.holds test_live;
-        second = canonical job number if_one world is.holds if_one_live;
-        third = canonical job number if_zero world is.holds if_zero_live;
+        first = canonical job number test world is.has test_live;
+        second = canonical job number if_one world is.has if_one_live;
+        third = canonical job number if_zero world is.has if_zero_live;
         repeated = tt;
       })
       (record {
-        first = firm job number test world is.holds test_live;
-        second = firm job number if_one world is.holds if_one_live;
-        third = firm job number if_zero world is.holds if_zero_live;
+        first = firm job number test world is.has test_live;
+        second = firm job number if_one world is.has if_one_live;
+        third = firm job number if_zero world is.has if_zero_live;
       })
       (ap (λ s r. StepGoesOn job.n job.text job.steps number s r) is.step_is) (ap (λ s c f many. RestsOn s c f many) is.step_is)
       (sym (from.table_is ∙ ap (step_table job.n from.seen) is.step_is
@@ -188,8 +208,8 @@ module _ (job : Job) (number : ℕ) (world : World) where
   quantifier_given kind of level is =
       let from = made_from job number is.within in
       let live = first_live (take number job.steps) of [] is.live in
-      let file = canonical job number of world is.holds live in
-      let sure = firm job number of world is.holds live in
+      let file = canonical job number of world is.has live in
+      let sure = firm job number of world is.has live in
       given_tables job number _ _ world (three job of of of) (record { first = file; second = file; third = file; repeated = (refl, refl) })
       (record { first = sure; second = sure; third = sure })
       (ap (λ s r. StepGoesOn job.n job.text job.steps number s r) is.step_is) (ap (λ s c f many. RestsOn s c f many) is.step_is)
@@ -203,8 +223,8 @@ module _ (job : Job) (number : ℕ) (world : World) where
   restriction_given of level value is =
       let from = made_from job number is.within in
       let live = first_live (take number job.steps) of [] is.live in
-      let file = canonical job number of world is.holds live in
-      let sure = firm job number of world is.holds live in
+      let file = canonical job number of world is.has live in
+      let sure = firm job number of world is.has live in
       given_tables job number _ _ world (three job of of of) (record { first = file; second = file; third = file; repeated = (refl, refl) })
       (record { first = sure; second = sure; third = sure })
       (ap (λ s r. StepGoesOn job.n job.text job.steps number s r) is.step_is) (ap (λ s c f many. RestsOn s c f many) is.step_is)
@@ -234,33 +254,33 @@ sweeping_given job number world (Size of) sweeping none is = cc
 
 -- and of n variables
 pub step_given : (job : Job) (n number : ℕ) (text : List ℕ) (p : Planned) (sweeping : Sweeping) (world : World) → sweeping_of p.step ≡ Some sweeping
-    → IsStepOf job n text number p → Holds job number (now world).folder → IsGivenTo job number p.step sweeping world n
-step_given job n number text p sweeping world some is holds =
+    → IsStepOf job n text number p → HasDiagrams job number (now world).folder → IsGivenTo job number p.step sweeping world n
+step_given job n number text p sweeping world some is has =
     subst (IsGivenTo job number p.step sweeping world) is.n_is
-    (sweeping_given job number world p.step sweeping some (held_step job n number text p p.step world is refl holds))
+    (sweeping_given job number world p.step sweeping some (held_step job n number text p p.step world is refl has))
 
 -- the files of two operands, and of one, are the canonical ones of their tables, and firm
 pub two_given : (job : Job) (n number : ℕ) (text : List ℕ) (p : Planned) (world : World) (step : Step) (left right : ℕ)
     (f g : FileNo) → f ≡ node_file left → g ≡ node_file right → p.step ≡ step
-    → operands step ≡ left ∷ right ∷ [] → IsStepOf job n text number p → Holds job number (now world).folder
+    → operands step ≡ left ∷ right ∷ [] → IsStepOf job n text number p → HasDiagrams job number (now world).folder
     → AreTwo n f g world (record { left = table_at job left; right = table_at job right })
-two_given job n number text p world step left right f g f_is g_is step_is names is holds =
-    let held = held_step job n number text p step world is step_is holds in
+two_given job n number text p world step left right f g f_is g_is step_is names is has =
+    let held = held_step job n number text p step world is step_is has in
     let live = subst (λ ks. IsTrue (list_all (is_live (take number job.steps)) ks)) names held.live in
     let second_live = first_live (take number job.steps) right [] (more_live (take number job.steps) left (right ∷ []) live) in
     record {
-      left_is = firm_at job n number left f world f_is is.n_is holds (first_live (take number job.steps) left (right ∷ []) live);
-      right_is = firm_at job n number right g world g_is is.n_is holds second_live;
+      left_is = firm_at job n number left f world f_is is.n_is has (first_live (take number job.steps) left (right ∷ []) live);
+      right_is = firm_at job n number right g world g_is is.n_is has second_live;
     }
 
 pub one_given : (job : Job) (n number : ℕ) (text : List ℕ) (p : Planned) (world : World) (step : Step) (of : ℕ)
     (f : FileNo) → f ≡ node_file of → p.step ≡ step
-    → operands step ≡ of ∷ [] → IsStepOf job n text number p → Holds job number (now world).folder
+    → operands step ≡ of ∷ [] → IsStepOf job n text number p → HasDiagrams job number (now world).folder
     → IsFirmFile n (table_at job of) f world
-one_given job n number text p world step of f f_is step_is names is holds =
-    let held = held_step job n number text p step world is step_is holds in
+one_given job n number text p world step of f f_is step_is names is has =
+    let held = held_step job n number text p step world is step_is has in
     let live = subst (λ ks. IsTrue (list_all (is_live (take number job.steps)) ks)) names held.live in
-    firm_at job n number of f world f_is is.n_is holds (first_live (take number job.steps) of [] live)
+    firm_at job n number of f world f_is is.n_is has (first_live (take number job.steps) of [] live)
 
 -- the work of a step, by one that leads alike
 pub work_given : (job : Job) (n number : ℕ) (text : List ℕ) (p : Planned) (s t : Step) → p.step ≡ t → joins s ≡ joins t → LeadAlike s t

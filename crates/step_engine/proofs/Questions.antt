@@ -45,7 +45,7 @@ use Rattle.step_engine.specs.StepEntries.{answer_entry}
 use Rattle.step_engine.specs.StepFaults.{IsReadingFault, IsStepFault, IsOfKind}
 use Rattle.step_engine.specs.Running.{nodes_read, RunsStep}
 use Rattle.step_engine.proofs.EntryLaws.{IsSpent, for_nameless, nameless_entry_is, bit_says}
-use Rattle.step_engine.proofs.Operands.{two_given, one_given, work_given}
+use Rattle.step_engine.proofs.Operands.{held_diagrams, two_given, one_given, work_given}
 use Rattle.step_engine.proofs.RunFaults.{faults_ok, fault_before, refused_then, gate_as}
 use Rattle.step_engine.proofs.Runs.{first_below, more_below, sound_fault, refused_runs, ended_runs, taken_then}
 use Rattle.step_engine.proofs.Went.{stands_as, safe_as, IsSet, Went, Swept, set_found, same_diagrams, same_gate, pays_for, parts_for, ends_for, went_then}
@@ -286,7 +286,7 @@ module _ (n number left right : ℕ) (f g : FileNo) (f_is : f ≡ node_file left
       let found : (step_at job number).step ≡ Same left right = ap (λ (x : Planned). x.step) is.step_is ∙ step_is in
       record {
         tables = record { left = table_at job left; right = table_at job right };
-        given = two_given job n number text p world (Same left right) left right f g f_is g_is step_is refl is holds;
+        given = two_given job n number text p world (Same left right) left right f g f_is g_is step_is refl is (held_diagrams job number (now world).folder holds);
         goes_is = ap (λ s r. StepGoesOn job.n job.text job.steps number s r) found
             ∙ (λ i. ComparisonGoesOn (is.n_is i) (sym f_is i) (sym g_is i) number (table_at job left) (table_at job right));
         rests_is = ap (λ s c h many. RestsOn s c h many) found;
@@ -313,7 +313,7 @@ module _ (n number left right : ℕ) (f g : FileNo) (f_is : f ≡ node_file left
       let found : (step_at job number).step ≡ Leq left right = ap (λ (x : Planned). x.step) is.step_is ∙ step_is in
       record {
         tables = record { left = table_at job left; right = table_at job right };
-        given = two_given job n number text p world (Leq left right) left right f g f_is g_is step_is refl is holds;
+        given = two_given job n number text p world (Leq left right) left right f g f_is g_is step_is refl is (held_diagrams job number (now world).folder holds);
         goes_is = ap (λ s r. StepGoesOn job.n job.text job.steps number s r) found
             ∙ (λ i. ImplicationGoesOn (is.n_is i) (sym f_is i) (sym g_is i) number (table_at job left) (table_at job right));
         rests_is = ap (λ s c h many. RestsOn s c h many) found;
@@ -341,7 +341,7 @@ module _ (n number of at : ℕ) (text : List ℕ) (f : FileNo) (f_is : f ≡ nod
       let found : (step_at job number).step ≡ Eval of at = ap (λ (x : Planned). x.step) is.step_is ∙ step_is in
       record {
         tables = table_at job of;
-        given = one_given job n number text p world (Eval of at) of f f_is step_is refl is holds;
+        given = one_given job n number text p world (Eval of at) of f f_is step_is refl is (held_diagrams job number (now world).folder holds);
         goes_is = ap (λ s r. StepGoesOn job.n job.text job.steps number s r) found
             ∙ (λ i. EvaluationGoesOn (is.n_is i) (sym f_is i) (is.text_is i) at number (table_at job of));
         rests_is = ap (λ s c h many. RestsOn s c h many) found;

@@ -57,7 +57,7 @@ use Rattle.step_engine.specs.StepEntries.{diagram_entry, IsEntryFor}
 use Rattle.step_engine.specs.StepFaults.{IsMakingFault, IsStepFault, IsRunFault, IsSoundFault, IsOfKind}
 use Rattle.step_engine.specs.Running.{run_calls, nodes_read, PaysRest, SparesParts, IsReadyFor, IsGoneOn, RunsStep}
 use Rattle.step_engine.proofs.EntryLaws.{IsSpent, for_diagram, diagram_entry_is}
-use Rattle.step_engine.proofs.Operands.{IsGivenTo, step_given}
+use Rattle.step_engine.proofs.Operands.{IsGivenTo, held_diagrams, step_given}
 use Rattle.step_engine.proofs.RunFaults.{faults_ok, fault_before, refused_first, refused_then, gate_as, shelf_sound, not_spent_kind}
 use Rattle.step_engine.proofs.Went.{stands_as, safe_as, IsSet, Went, Swept, went_first, set_found, same_diagrams, same_gate, pays_for, parts_for, ends_for, went_then}
 
@@ -76,7 +76,7 @@ swept_calls step turns rest now_clock clock swept few =
     subst (λ b. now_clock ≤ clock + (cond b (229 * turns + 13) 5 + rest)) (sym swept) few
 
 -- a step that sweeps isn't one that takes one turn
-never_one : {A : Type 0} (step : Step) → sweeps step ≡ true → sweeps step ≡ false → A
+pub never_one : {A : Type 0} (step : Step) → sweeps step ≡ true → sweeps step ≡ false → A
 never_one step swept not = absurd cc
 
 -- what a sound folder allows of a fault: none of damage, and none of parts below so much work
@@ -364,7 +364,8 @@ module _ {S : Type 0} (tells : S → Bool) (world : S → World) (counts : S →
 
   given_as : (job : Job) → IsSet job n text number p going.last (now (world mid)).folder → IsGivenAs job
   given_as job set =
-      let given : IsGivenTo job number p.step sweeping (world mid) n = step_given job n number text p sweeping (world mid) some set.is set.holds in
+      let given : IsGivenTo job number p.step sweeping (world mid) n = step_given job n number text p sweeping (world mid) some set.is
+      (held_diagrams job number (now (world mid)).folder set.holds) in
       let goes_is : JobGoesOn job number ≡ DiagramGoesOn sweeping.operation n sweeping.operands going.step given.tables =
       given.goes_is ∙ (λ i. DiagramGoesOn sweeping.operation n sweeping.operands (sym step_is i) given.tables) in
       record {

@@ -6,3 +6,4 @@ pub mod LeftBehind
 pub mod Sweeping
 pub mod Finding
 pub mod Running
+pub mod AtOnce

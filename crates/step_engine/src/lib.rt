@@ -2,6 +2,7 @@
 //! up.
 #![tactic(auto)]
 
+mod at_once;
 mod diagrams;
 mod drops;
 mod entries;
@@ -12,6 +13,7 @@ mod simple;
 mod step;
 mod sweeping;
 
+pub use at_once::run_at_once;
 pub use drops::{tidy, tidy_gone_on};
 pub use entries::drop_entry;
 pub use kinds::{entry_of_kind, kind_of};
