@@ -2,11 +2,10 @@
 use Rattle.std.proofs.Common.{◌≡◌, ◌∙◌, ℕ, ◌+◌, ◌-◌, ◌*◌, ◌/◌, ◌<◌, ◌≤◌, Bool, true, false, cond, nat_lt, min, List, [], length, take, get_or, refl, sym, ap, subst, inl, inr, arith}
 use Rattle.std.specs.Prelude.{IsTrue, Option, Result, Ok, Err, OnOk}
 use Rattle.std.proofs.lemmas.Bool.{cases_lt, ltb-false}
-use Rattle.std.proofs.lemmas.Cmp.{nat_eq_equiv}
 use Rattle.bool_tables.specs.declared.steps.Step.{Step}
 use Rattle.bool_tables.specs.declared.steps.Step.TheVariants.{Drop}
 use Rattle.bool_tables.specs.declared.steps.Planned.{Planned}
-use Rattle.bool_tables.specs.Plans.{IsWellFormed, is_live, drops}
+use Rattle.bool_tables.specs.Plans.{IsWellFormed, is_live}
 use Rattle.shelf_model.specs.declared.file_no.FileNo.{FileNo}
 use Rattle.shelf_model.specs.declared.fault.Failed.{Failed}
 use Rattle.shelf_model.specs.declared.fault.StreamFault.{StreamFault}
@@ -42,13 +41,13 @@ use Rattle.script_runner.specs.Calls.{step_calls, AreCounted}
 use Rattle.script_runner.specs.Stops.{paid_in}
 use Rattle.script_runner.specs.StepRuns.{IsTaking, NoneDrops, TakesSteps}
 use Rattle.script_runner.proofs.Shown.{same_entries, still_shown}
-use Rattle.script_runner.proofs.RunSteps.{IsPlan, AtStep, done_at, held_steps, taking}
+use Rattle.script_runner.proofs.RunSteps.{IsPlan, AtStep, done_at, drop_below, held_steps, taking}
 use Rattle.script_runner.proofs.TogetherPuts.{emptied_more, empties_on}
 use Rattle.script_runner.proofs.SweepDamage.{live_not_dropped}
 use Rattle.script_runner.proofs.Taking.{JobStays, AllHave, dropping, cut_file, ready_same, some_calls}
 use Rattle.script_runner.proofs.Needed.{needed, needed_is, KeepsNeeded, paid_same, before, before_image, before_same, holds_needed}
 use Rattle.script_runner.specs.Together.{OnlyEmptied, IsDropped}
-use Rattle.script_runner.specs.Tidied.{planned_step, MayBeLast, IsCutOf, IsCutLast, TidiedLast, TidiesFor, TidyCosts, IsEmptiedBy, EmptiesBy, EmptiesLast, tidied_to, last_calls}
+use Rattle.script_runner.specs.Tidied.{planned_step, MayBeLast, IsCutOf, IsCutLast, may_wait, TidiedLast, TidiesFor, TidyCosts, IsEmptiedBy, EmptiesBy, EmptiesLast, tidied_to, last_calls}
 
 -- the cuts of any step are at most so many calls
 last_few : (step : Step) (e : Entry) → last_calls step e ≤ 66127
@@ -114,16 +113,7 @@ module _ {S : Type 0} (tells : S → Bool) (world : S → World) (steps : List P
         (subst (λ n. IsLeftBehind n (tidied_to e) last f) (sym here.number) (subst (λ x. IsLeftBehind k (tidied_to x) last f) (sym same) left));
   }
 
--- the steps behind one that the last commit may have had are such ones too
-last_behind : (steps : List Planned) (done first k : ℕ) → MayBeLast steps done first → first ≤ k → k < done → MayBeLast steps done k
-last_behind steps done first k is from below = record {
-  planned = is.planned;
-  within = below;
-  few = let few = is.few in omega (arith, few, from);
-  drops = λ j behind before. is.drops j (omega (arith, from, behind)) before;
-}
-
--- and where one of them is no drop none comes before it
+-- where one of the steps that the last commit may have had is no drop none comes before it
 pub none_before_it : (steps : List Planned) (done first k : ℕ) → ((gone : ℕ) → planned_step steps first ≡ Drop gone → ⊥) → first < done
     → MayBeLast steps done k → first ≤ k
 none_before_it steps done first k none within is = elim (cases_lt k first) [
@@ -138,25 +128,18 @@ module _ {S : Type 0} (tells : S → Bool) (world : S → World) (steps : List P
   pub first_tidied : Told tells old mid (Ran (TidiedLast steps done (now (world old))) (world old) (world mid))
   first_tidied = told tells old mid _ _ tidies (λ _ run.
       ran_weakens (world old) (world mid) (OnlyEmptied (IsCutOf steps first) (now (world old))) (TidiedLast steps done (now (world old)))
-      (λ m. emptied_more (IsCutOf steps first) (IsCutLast steps done) (now (world old)) m (λ f cut. (first, is, cut))) run)
+      (λ m. emptied_more (IsCutOf steps first) (IsCutLast steps done) (now (world old)) m (λ f cut. inl (first, is, cut))) run)
 
   pub all_tidied : (new : S)
-      → Told tells mid new (Ran (OnlyEmptied (IsDropped steps (first + 1) done) (now (world mid))) (world mid) (world new))
+      → Told tells mid new (Ran (OnlyEmptied (IsDropped steps (may_wait done) done) (now (world mid))) (world mid) (world new))
       → Told tells old new (Ran (TidiedLast steps done (now (world old))) (world old) (world new))
-  all_tidied new = empties_on tells world (IsCutLast steps done) old mid first_tidied (IsDropped steps (first + 1) done) new
-      (λ f dropped. cut_last f dropped)
-    where
-      cut_last : (f : FileNo) → IsDropped steps (first + 1) done f → IsCutLast steps done f
-      cut_last f (k, from, below, (gone, drops_it, at)) = (
-        k,
-        last_behind steps done first k is (omega (arith, from)) below,
-        (0, inl (gone, subst (λ s. IsTrue (drops gone s)) (sym drops_it) (nat_eq_equiv.refl gone), at)),
-      )
+  all_tidied new = empties_on tells world (IsCutLast steps done) old mid first_tidied (IsDropped steps (may_wait done) done) new
+      (λ f dropped. inr dropped)
 
   pub tidied_calls : (new : World) → (world mid).clock ≤ (world old).clock + 66128 → TidiesFor steps first 0 (world old) (world mid)
-      → new.clock ≤ (world mid).clock + (done - (first + 1)) → TidyCosts steps done (world old) new
+      → new.clock ≤ (world mid).clock + (done - may_wait done) → TidyCosts steps done (world old) new
   tidied_calls new most costs cuts = record {
-    most = let few = is.few in omega (arith, most, cuts, few);
+    most = omega (arith, most, cuts);
     none = λ none. let within = is.within in absurd (omega (arith, none, within));
     few = λ some planned. (
       first,
@@ -170,23 +153,11 @@ module _ {S : Type 0} (tells : S → Bool) (world : S → World) (steps : List P
 
   -- and what was to be emptied is empty
   pub all_emptied : (new : S)
-      → Told tells mid new (Ran (OnlyEmptied (IsDropped steps (first + 1) done) (now (world mid))) (world mid) (world new))
+      → Told tells mid new (Ran (OnlyEmptied (IsDropped steps (may_wait done) done) (now (world mid))) (world mid) (world new))
       → IsTrue (tells new) → EmptiesBy steps first (now (world old)).folder (now (world mid)).folder
-      → ((k gone : ℕ) → first + 1 ≤ k → k < done → planned_step steps k ≡ Drop gone → (file_in (now (world new)).folder (node_file gone)).bytes ≡ [])
+      → ((k gone : ℕ) → may_wait done ≤ k → k < done → planned_step steps k ≡ Drop gone → (file_in (now (world new)).folder (node_file gone)).bytes ≡ [])
       → EmptiesLast steps done (now (world old)).folder (now (world new)).folder
-  all_emptied new cuts tells_new own dropped k last e stands kind = elim (cases_lt first k) [
-    | inl behind ↦
-        let drop = last_behind_drops k behind last in
-        record {
-          dropped = λ gone drops_it. dropped k gone (omega (arith, behind)) last.within drops_it;
-          swept = λ swept. absurd (no_sweep drop.0 (subst (λ s. IsTrue (sweeps s)) drop.1 swept));
-        }
-    | inr upto ↦
-        let low = least k last in
-        let here : k ≡ first = omega (arith, upto, low) in
-        still (subst (λ j. IsEmptiedBy steps j e (now (world old)).folder (now (world mid)).folder) (sym here)
-        (own e (subst (λ j. IsEntryOf j (present (now (world old)).folder) e) here stands) (kind ∙ ap (λ j. kind_of (planned_step steps j)) here)))
-  ]
+  all_emptied new cuts tells_new own dropped = record { first = of_first; dropped = λ upto. dropped }
     where
       last_behind_drops : (j : ℕ) → first < j → MayBeLast steps done j → (gone : ℕ) × (planned_step steps j ≡ Drop gone)
       last_behind_drops j behind other = is.drops j (omega (arith, behind)) other.within
@@ -195,13 +166,30 @@ module _ {S : Type 0} (tells : S → Bool) (world : S → World) (steps : List P
       no_sweep gone swept = cc
 
       stays : (f : FileNo) → (file_in (now (world mid)).folder f).bytes ≡ [] → (file_in (now (world new)).folder f).bytes ≡ []
-      stays = (ran_end (world mid) (world new) (OnlyEmptied (IsDropped steps (first + 1) done) (now (world mid))) (cuts.did tells_new)).stays
+      stays = (ran_end (world mid) (world new) (OnlyEmptied (IsDropped steps (may_wait done) done) (now (world mid))) (cuts.did tells_new)).stays
 
-      still : IsEmptiedBy steps k e (now (world old)).folder (now (world mid)).folder → IsEmptiedBy steps k e (now (world old)).folder (now (world new)).folder
-      still emptied = record {
+      still : (k : ℕ) (e : Entry) → IsEmptiedBy steps k e (now (world old)).folder (now (world mid)).folder
+          → IsEmptiedBy steps k e (now (world old)).folder (now (world new)).folder
+      still k e emptied = record {
         dropped = λ gone drops_it. stays (node_file gone) (emptied.dropped gone drops_it);
         swept = λ swept point at f left. stays f (emptied.swept swept point at f left);
       }
+
+      of_first : (k : ℕ) → MayBeLast steps done k → EmptiesBy steps k (now (world old)).folder (now (world new)).folder
+      of_first k last e stands kind = elim (cases_lt first k) [
+        | inl behind ↦
+            let drop = last_behind_drops k behind last in
+            let few = last.few in
+            record {
+              dropped = λ gone drops_it. dropped k gone (omega (arith, few)) last.within drops_it;
+              swept = λ swept. absurd (no_sweep drop.0 (subst (λ s. IsTrue (sweeps s)) drop.1 swept));
+            }
+        | inr upto ↦
+            let low = least k last in
+            let here : k ≡ first = omega (arith, upto, low) in
+            still k e (subst (λ j. IsEmptiedBy steps j e (now (world old)).folder (now (world mid)).folder) (sym here)
+            (own e (subst (λ j. IsEntryOf j (present (now (world old)).folder) e) here stands) (kind ∙ ap (λ j. kind_of (planned_step steps j)) here)))
+      ]
 
 -- what follows where it went well
 pub ok_then : {T E X Y : Type 0} (result : Result T E) → OnOk result X → (X → Y) → OnOk result Y
@@ -218,13 +206,14 @@ pub read_then : {T U : Type 0} (old mid new : Faults) (x : U) (result : Result T
 read_then old mid new x result read cut =
     only_folder_then old mid new result (record { later = read.later; cause = tt; say_is = read.say_is; text_is = read.text_is }) cut
 
--- a step of the job whose entry stands whole pays for that: it read the entry, and cut what few turns of its work took
+-- a step of the job whose entry stands whole pays for that: it read the entry, and cut what few turns of its work took,
+-- and one file more
 last_within : (step : Step) (e : Entry) (work : ℕ) → 1 ≤ e.turns → e.turns ≤ work → e.parts ≤ 1024 + e.turns / 16
-    → 1 + last_calls step e ≤ cond (sweeps step) (229 * work + work / 16 + 22) 11
+    → 2 + last_calls step e ≤ cond (sweeps step) (229 * work + work / 16 + 22) 11
 last_within step e work some within few = by_tests (nat_lt e.turns 16) refl (sweeps step)
   where
     by_tests : (short : Bool) → nat_lt e.turns 16 ≡ short → (swept : Bool)
-        → 1 + cond short (cond swept 4 1) (cond swept (591 + min (parts_end e.parts - 5) most_cut) 1) ≤ cond swept (229 * work + work / 16 + 22) 11
+        → 2 + cond short (cond swept 4 1) (cond swept (591 + min (parts_end e.parts - 5) most_cut) 1) ≤ cond swept (229 * work + work / 16 + 22) 11
     by_tests true is true = omega (arith, some, within)
     by_tests true is false = omega arith
     by_tests false is true = let long : 16 ≤ e.turns = ltb-false e.turns 16 is in omega (arith, long, within, few)
@@ -242,7 +231,11 @@ last_unswept step e is = by_test (nat_lt e.turns 16) (sweeps step) is
 module _ (job : Job) (plan : IsWellFormed job.n job.text job.steps) (count : ℕ) (upto : count ≤ length job.steps) where
   -- what is cut of the steps of the last commit is a file of a committed step
   cut_below : (f : FileNo) → IsCutLast job.steps count f → f.step < count
-  cut_below f (k, is, (next, cut)) =
+  cut_below f (inr (k, from, below, (gone, drops_it, at))) =
+      let low : gone < k = drop_below job k gone plan (omega (arith, below, upto)) drops_it in
+      let same : f.step ≡ gone = ap (λ (q : FileNo). q.step) at in
+      omega (arith, low, same, below)
+  cut_below f (inl (k, is, (next, cut))) =
       let below = is.within in
       let within : k < length job.steps = omega (arith, below, upto) in
       let low : f.step ≤ k =
@@ -257,11 +250,14 @@ module _ (job : Job) (plan : IsWellFormed job.n job.text job.steps) (count : ℕ
   ]
     where
       not_live : f.part ≡ 0 → IsTrue (is_live (take count job.steps) f.step) → IsCutLast job.steps count f → ⊥
-      not_live first live (k, is, (next, inl (gone, dropped, at))) =
+      not_live first live (inr (k, from, below, (gone, drops_it, at))) =
+          live_not_dropped job.steps count gone k below upto
+          (subst (λ j. IsTrue (is_live (take count job.steps) j)) (ap (λ (q : FileNo). q.step) at) live) drops_it
+      not_live first live (inl (k, is, (next, inl (gone, dropped, at)))) =
           live_not_dropped job.steps count gone k is.within upto
           (subst (λ j. IsTrue (is_live (take count job.steps) j)) (ap (λ (q : FileNo). q.step) at) live)
           (dropping gone (planned_step job.steps k) dropped)
-      not_live first live (k, is, (next, inr (swept, own))) = let from : 1 ≤ f.part = own.from in omega (arith, first, from)
+      not_live first live (inl (k, is, (next, inr (swept, own)))) = let from : 1 ≤ f.part = own.from in omega (arith, first, from)
 
   keeps_needed : (old m : Moment) → TidiedLast job.steps count old m → KeepsNeeded job.steps count old.folder m.folder
   keeps_needed old m tidied f need = tidied.only f (not_needed f need)
@@ -321,9 +317,10 @@ module _ (job : Job) (plan : IsWellFormed job.n job.text job.steps) (count : ℕ
     };
   }
 
-  -- the first step's own calls pay for it, as the step isn't taken in this run, but for those that cut other files
+  -- the first step's own calls pay for it, as the step isn't taken in this run, and for one more cut, but for those that
+  -- cut other files
   pub last_paid : (paid besides k : ℕ) (old : Folder) (mid new : World) → MayBeLast job.steps count k → AreCounted job old paid
-      → (AreSound job old → Holds job count (now mid).folder) → TidiesFor job.steps k besides mid new
+      → (AreSound job old → Holds job count (now mid).folder) → TidiesFor job.steps k (besides + 1) mid new
       → new.clock ≤ mid.clock + (step_calls job (get_or job.steps k no_step) + besides)
   last_paid paid besides k old mid new is counted holds costs = elim costs [
     | inl one ↦
@@ -400,7 +397,10 @@ tidied_at job lines plan old files step rest mid new mid_files at run = record {
         (ap (λ (x : File). take (128 * step) x.bytes) (stays catalogue refl)) k below
 
     undropped : (k : ℕ) → NoneDrops job.steps 0 step k → IsCutLast job.steps step (node_file k) → ⊥
-    undropped k none (j, is, (next, inl (gone, dropped, at))) =
+    undropped k none (inr (j, from, below, (gone, drops_it, at))) =
+        let same : gone ≡ k = ap (λ (q : FileNo). q.step) (sym at) in
+        none j (omega arith) below (drops_it ∙ ap Drop same)
+    undropped k none (inl (j, is, (next, inl (gone, dropped, at)))) =
         let same : gone ≡ k = ap (λ (q : FileNo). q.step) (sym at) in
         none j (omega arith) is.within (dropping gone (planned_step job.steps j) dropped ∙ ap Drop same)
-    undropped k none (j, is, (next, inr (swept, own))) = let no : 1 ≤ 0 = own.from in omega (arith, no)
+    undropped k none (inl (j, is, (next, inr (swept, own)))) = let no : 1 ≤ 0 = own.from in omega (arith, no)

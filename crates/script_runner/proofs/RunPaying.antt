@@ -46,32 +46,36 @@ rest_of rest = rest - (2 ^ 24 + 2 ^ 21 + 2 ^ 17)
 -- of the last commit, for the lines that were said, and once the first step was taken what paid for going on with it
 abbrev pub spent_at : ℕ → ℕ → ℕ → ℕ → ℕ → ℕ → ℕ
 spent_at bytes lines left done step rest =
-    67161 + pieces bytes + 2 * (lines - left) + (rest_of rest - unpaid done step (rest_of rest))
+    67162 + pieces bytes + 2 * (lines - left) + (rest_of rest - unpaid done step (rest_of rest))
 
--- a run so far: what a stop costs at each moment of it, and now
-pub record PaysSoFar (job : Job) (paid spent rest : ℕ) (old new : World) : Type 0 where
+-- a run so far: what a stop costs at each moment of it, and now, with so many calls to spare
+pub record PaysSoFar (job : Job) (paid spent rest spare : ℕ) (old new : World) : Type 0 where
   pub stops : PaysThrough job paid (old.clock + rest) old new
-  pub here : (image : Image) → IsImage (now new).folder image → PaysAt job paid (old.clock + spent) new.clock (bytes_in image)
+  pub here : (image : Image) → IsImage (now new).folder image → PaysAt job paid (old.clock + spent) (new.clock + spare) (bytes_in image)
 
 -- more calls than were counted
 pub at_more : (job : Job) (paid most more j : ℕ) (r : FileNo → List ℕ) → most ≤ more → PaysAt job paid most j r → PaysAt job paid more j r
 at_more job paid most more j r less at = record { no_fewer = at.no_fewer; few = let few = at.few in omega (arith, few, less) }
 
+-- fewer calls than were counted
+pub at_fewer : (job : Job) (paid most j fewer : ℕ) (r : FileNo → List ℕ) → fewer ≤ j → PaysAt job paid most j r → PaysAt job paid most fewer r
+at_fewer job paid most j fewer r less at = record { no_fewer = at.no_fewer; few = let few = at.few in omega (arith, few, less) }
+
 -- a run of calls in which each image pays for what one of before did
-pub pays_on : (job : Job) (paid spent more rest : ℕ) (old mid new : World) → mid.clock ≤ new.clock
+pub pays_on : (job : Job) (paid spent more rest spare : ℕ) (old mid new : World) → mid.clock ≤ new.clock
     → ((k : ℕ) → k ≤ mid.clock → new.moment k ≡ mid.moment k) → new.clock ≤ mid.clock + more → spent + more ≤ rest
     → ((k : ℕ) → mid.clock ≤ k → k ≤ new.clock → (image : Image) → IsImage (new.moment k).folder image
     → (before : Image) × IsImage (now mid).folder before × (paid_in job (bytes_in image) ≡ paid_in job (bytes_in before)))
-    → PaysSoFar job paid spent rest old mid → PaysSoFar job paid (spent + more) rest old new
-pays_on job paid spent more rest old mid new later past few within same so_far = record {
+    → PaysSoFar job paid spent rest spare old mid → PaysSoFar job paid (spent + more) rest spare old new
+pays_on job paid spent more rest spare old mid new later past few within same so_far = record {
   stops = pays_join job paid (old.clock + rest) old mid new past so_far.stops
       (λ k from to image is_image. at_more job paid (old.clock + (spent + more)) (old.clock + rest) k (bytes_in image) (omega (arith, within))
-      (still k from to image is_image));
+      (at_fewer job paid (old.clock + (spent + more)) (k + spare) k (bytes_in image) (omega arith) (still k from to image is_image)));
   here = still new.clock later (omega arith);
 }
   where
     still : (k : ℕ) → mid.clock ≤ k → k ≤ new.clock → (image : Image) → IsImage (new.moment k).folder image
-        → PaysAt job paid (old.clock + (spent + more)) k (bytes_in image)
+        → PaysAt job paid (old.clock + (spent + more)) (k + spare) (bytes_in image)
     still k from to image is_image =
         let found = same k from to image is_image in
         let at = so_far.here found.0 found.1 in
@@ -81,37 +85,39 @@ pays_on job paid spent more rest old mid new later past few within same so_far =
         record { no_fewer = omega (arith, no_fewer, as_much); few = omega (arith, no_fewer, counted, few, to, as_much) }
 
 -- so it is where the files stay
-pub stays_on : (job : Job) (paid spent more rest : ℕ) (old mid new : World) → Throughout mid new (Stays (now mid)) → new.clock ≤ mid.clock + more
-    → spent + more ≤ rest → PaysSoFar job paid spent rest old mid → PaysSoFar job paid (spent + more) rest old new
-stays_on job paid spent more rest old mid new run few within so_far =
-    pays_on job paid spent more rest old mid new run.later run.past few within
+pub stays_on : (job : Job) (paid spent more rest spare : ℕ) (old mid new : World) → Throughout mid new (Stays (now mid)) → new.clock ≤ mid.clock + more
+    → spent + more ≤ rest → PaysSoFar job paid spent rest spare old mid → PaysSoFar job paid (spent + more) rest spare old new
+stays_on job paid spent more rest spare old mid new run few within so_far =
+    pays_on job paid spent more rest spare old mid new run.later run.past few within
     (λ k from to image is_image. (image, subst (λ folder. IsImage folder image) (run.each k from to) is_image, refl)) so_far
 
--- what each image pays for at least, so that what was spent so far is paid for
-abbrev pub paid_now : ℕ → ℕ → World → World → ℕ
-paid_now paid spent old new = max paid (new.clock + paid - (old.clock + spent))
+-- what each image pays for at least, so that what was spent so far, and what there is to spare, is paid for
+abbrev pub paid_now : ℕ → ℕ → ℕ → World → World → ℕ
+paid_now paid spent spare old new = max paid (new.clock + spare + paid - (old.clock + spent))
 
-pub pay_now : (job : Job) (paid spent rest : ℕ) (old new : World) → PaysSoFar job paid spent rest old new
-    → PayAtLeast job (paid_now paid spent old new) (now new).folder
-pay_now job paid spent rest old new so_far image is_image =
+pub pay_now : (job : Job) (paid spent rest spare : ℕ) (old new : World) → PaysSoFar job paid spent rest spare old new
+    → PayAtLeast job (paid_now paid spent spare old new) (now new).folder
+pay_now job paid spent rest spare old new so_far image is_image =
     let at = so_far.here image is_image in
     let no_fewer = at.no_fewer in
     let few = at.few in
     omega (arith, no_fewer, few)
 
 -- steps were taken, or stopped the run
-pub step_on : (job : Job) (paid spent unspent rest : ℕ) (result : Result Entry Finish) (old mid new : World)
-    → ((k : ℕ) → k ≤ mid.clock → new.moment k ≡ mid.moment k) → spent + (run_stop + most_together + unspent) ≤ rest → PaysSoFar job paid spent rest old mid
-    → StepPays job (paid_now paid spent old mid) unspent result mid new → PaysThrough job paid (old.clock + rest) old new
-step_on job paid spent unspent rest result old mid new past within so_far step =
+pub step_on : (job : Job) (paid spent unspent rest spare left : ℕ) (result : Result Entry Finish) (old mid new : World)
+    → ((k : ℕ) → k ≤ mid.clock → new.moment k ≡ mid.moment k) → spent + (run_stop + most_together + unspent) ≤ rest
+    → PaysSoFar job paid spent rest spare old mid → StepPays job (paid_now paid spent spare old mid) unspent spare left result mid new
+    → PaysThrough job paid (old.clock + rest) old new
+step_on job paid spent unspent rest spare left result old mid new past within so_far step =
     pays_join job paid (old.clock + rest) old mid new past so_far.stops
-    (pays_more job paid (paid_now paid spent old mid) (mid.clock + (run_stop + most_together + unspent)) (old.clock + rest) mid new (omega arith) (omega (arith, within)) step.stops)
+    (pays_more job paid (paid_now paid spent spare old mid) (mid.clock + (run_stop + most_together + unspent)) (old.clock + rest) mid new (omega arith) (omega (arith, within)) step.stops)
 
-pub step_done : (job : Job) (paid spent unspent rest : ℕ) (e : Entry) (old mid new : World)
-    → ((k : ℕ) → k ≤ mid.clock → new.moment k ≡ mid.moment k) → spent + (run_stop + most_together + unspent) ≤ rest → PaysSoFar job paid spent rest old mid
-    → StepPays job (paid_now paid spent old mid) unspent (Ok e) mid new → PaysSoFar job paid (spent + unspent) rest old new
-step_done job paid spent unspent rest e old mid new past within so_far step = record {
-  stops = step_on job paid spent unspent rest (Ok e) old mid new past within so_far step;
+pub step_done : (job : Job) (paid spent unspent rest spare left : ℕ) (e : Entry) (old mid new : World)
+    → ((k : ℕ) → k ≤ mid.clock → new.moment k ≡ mid.moment k) → spent + (run_stop + most_together + unspent) ≤ rest
+    → PaysSoFar job paid spent rest spare old mid → StepPays job (paid_now paid spent spare old mid) unspent spare left (Ok e) mid new
+    → PaysSoFar job paid (spent + unspent) rest left old new
+step_done job paid spent unspent rest spare left e old mid new past within so_far step = record {
+  stops = step_on job paid spent unspent rest spare left (Ok e) old mid new past within so_far step;
   here = λ image is_image.
       let at = step.ends image is_image in
       let no_fewer = at.no_fewer in
@@ -160,13 +166,14 @@ attached_pays job given paid most old new files sound shows run few k from to im
 
 pub attached_so_far : (job : Job) (given : List ℕ) (paid spent rest : ℕ) (old new : World) → AreFiles (now old).folder → AreSound job (now old).folder
     → PayAtLeast job paid (now old).folder → Ran (DuringAttach given (now old)) old new → new.clock ≤ old.clock + spent → spent ≤ rest
-    → PaysSoFar job paid spent rest old new
+    → PaysSoFar job paid spent rest 0 old new
 attached_so_far job given paid spent rest old new files sound shows run few within =
     let pays = attached_pays job given paid (old.clock + spent) old new files sound shows run few in
     record {
       stops = λ k from to image is_image. at_more job paid (old.clock + spent) (old.clock + rest) k (bytes_in image) (omega (arith, within))
           (pays k from to image is_image);
-      here = pays new.clock run.moments.later (omega arith);
+      here = λ image is_image. at_fewer job paid (old.clock + spent) new.clock (new.clock + 0) (bytes_in image) (omega arith)
+          (pays new.clock run.moments.later (omega arith) image is_image);
     }
 
 -- what pays for going on with the run pays for going on with the first step that isn't committed
@@ -174,17 +181,17 @@ first_paid : (job : Job) (rest : ℕ) (folder : Folder) → IsRestOf job (presen
 first_paid job rest folder is within c told = let enough = is.goes_on c told in omega (arith, enough)
 
 -- so is each step of it
-pub step_paid : (job : Job) (lines paid spent rest step : ℕ) (gated : Bool) (old new : World) → IsWellFormed job.n job.text job.steps → AreFiles (now old).folder
+pub step_paid : (job : Job) (lines paid spent rest spare step : ℕ) (gated : Bool) (old new : World) → IsWellFormed job.n job.text job.steps → AreFiles (now old).folder
     → IsPaidRun job lines paid rest (now old).folder → count_in (present (now old).folder) ≤ step → step < length job.steps
     → KeepsUndropped job.steps (count_in (present (now old).folder)) step (now old).folder (now new).folder
     → KeepsLater step (now old).folder (now new).folder → Holds job step (now new).folder → IsGated gated step (now old).folder
-    → PaysSoFar job paid spent rest old new
-    → IsPaidStep job step gated (paid_now paid spent old new) (unpaid (count_in (present (now old).folder)) step (rest_of rest)) (now new).folder
-step_paid job lines paid spent rest step gated old new plan files is reached within keeps later holds gates so_far = record {
+    → PaysSoFar job paid spent rest spare old new
+    → IsPaidStep job step gated (paid_now paid spent spare old new) (unpaid (count_in (present (now old).folder)) step (rest_of rest)) (now new).folder
+step_paid job lines paid spent rest spare step gated old new plan files is reached within keeps later holds gates so_far = record {
   holds = holds;
   gated = gated_now job gated step (now old).folder (now new).folder plan within later gates;
   work = is.work step within;
-  shows = pay_now job paid spent rest old new so_far;
+  shows = pay_now job paid spent rest spare old new so_far;
   pays = subst (λ n. PaysRest (step_at job step).step step (present (now new).folder) n)
       (unpaid_less (count_in (present (now old).folder)) step (rest_of rest))
       (pays_now job step (rest_of rest - 64539) (now old).folder (now new).folder plan files is.sound reached within keeps later
@@ -193,10 +200,11 @@ step_paid job lines paid spent rest step gated old new plan files is reached wit
 }
 
 -- more is said to be spent
-pub so_more : (job : Job) (paid spent more rest : ℕ) (old new : World) → spent ≤ more → PaysSoFar job paid spent rest old new → PaysSoFar job paid more rest old new
-so_more job paid spent more rest old new less so_far = record {
+pub so_more : (job : Job) (paid spent more rest spare : ℕ) (old new : World) → spent ≤ more → PaysSoFar job paid spent rest spare old new
+    → PaysSoFar job paid more rest spare old new
+so_more job paid spent more rest spare old new less so_far = record {
   stops = so_far.stops;
-  here = λ image is_image. at_more job paid (old.clock + spent) (old.clock + more) new.clock (bytes_in image) (omega (arith, less)) (so_far.here image is_image);
+  here = λ image is_image. at_more job paid (old.clock + spent) (old.clock + more) (new.clock + spare) (bytes_in image) (omega (arith, less)) (so_far.here image is_image);
 }
 
 -- the lines that remain are no more than all
@@ -243,13 +251,13 @@ module _ {S : Type 0} (tells : S → Bool) (world : S → World) (law : (s : S) 
       → Told tells old mid (Ran (DuringAttach given (now (world old))) (world old) (world mid)) → IsTrue (tells mid)
       → (world mid).clock ≤ (world old).clock + 9 + pieces (length given) → Ticks (world mid) (world new)
       → (now (world new)).folder ≡ (now (world mid)).folder → (paid rest : ℕ) → IsPaidRun job lines paid rest (now (world old)).folder
-      → PaysSoFar job paid (9 + pieces (length job.bytes) + 1) rest (world old) (world new)
+      → PaysSoFar job paid (9 + pieces (length job.bytes) + 1) rest 0 (world old) (world new)
   banner_so_far given old mid new size run told few ticks same paid rest is =
       let files = law old (run.before told) in
       let great = rest_is_great job lines paid rest (now (world old)).folder files is in
       let short = is.short in
       let clock = ticks.clock_is in
-      stays_on job paid (9 + pieces (length job.bytes)) 1 rest (world old) (world mid) (world new) (said_stays (world mid) (world new) ticks same)
+      stays_on job paid (9 + pieces (length job.bytes)) 1 rest 0 (world old) (world mid) (world new) (said_stays (world mid) (world new) ticks same)
       (omega (arith, clock)) (omega (arith, great, short))
       (attached_so_far job given paid (9 + pieces (length job.bytes)) rest (world old) (world mid) files is.sound is.shows (run.did told) (omega (arith, few, size))
       (omega (arith, great, short)))
@@ -258,16 +266,16 @@ module _ {S : Type 0} (tells : S → Bool) (world : S → World) (law : (s : S) 
   pub tidied_so_far : (plan : IsWellFormed job.n job.text job.steps) (step left : ℕ) (old mid new : S) → IsTrue (tells old) → step ≤ length job.steps
       → (AreSound job (now (world old)).folder → Holds job step (now (world mid)).folder)
       → Told tells mid new (Ran (TidiedLast job.steps step (now (world mid))) (world mid) (world new)) → IsTrue (tells new)
-      → (world new).clock ≤ (world mid).clock + 67151 → (paid rest : ℕ) → IsPaidRun job lines paid rest (now (world old)).folder
-      → PaysSoFar job paid (9 + pieces (length job.bytes) + 1) rest (world old) (world mid)
-      → PaysSoFar job paid (spent_at (length job.bytes) lines left (count_in (present (now (world old)).folder)) step rest) rest (world old) (world new)
+      → (world new).clock ≤ (world mid).clock + 67152 → (paid rest : ℕ) → IsPaidRun job lines paid rest (now (world old)).folder
+      → PaysSoFar job paid (9 + pieces (length job.bytes) + 1) rest 0 (world old) (world mid)
+      → PaysSoFar job paid (spent_at (length job.bytes) lines left (count_in (present (now (world old)).folder)) step rest) rest 0 (world old) (world new)
   tidied_so_far plan step left old mid new tells_old upto holds tidies told few paid rest is so_far =
       let great = rest_is_great job lines paid rest (now (world old)).folder (law old tells_old) is in
       let short = is.short in
       let ran = tidies.did told in
-      so_more job paid (9 + pieces (length job.bytes) + 1 + 67151)
-      (spent_at (length job.bytes) lines left (count_in (present (now (world old)).folder)) step rest) rest (world old) (world new) (omega arith)
-      (pays_on job paid (9 + pieces (length job.bytes) + 1) 67151 rest (world old) (world mid) (world new) ran.moments.later ran.moments.past
+      so_more job paid (9 + pieces (length job.bytes) + 1 + 67152)
+      (spent_at (length job.bytes) lines left (count_in (present (now (world old)).folder)) step rest) rest 0 (world old) (world new) (omega arith)
+      (pays_on job paid (9 + pieces (length job.bytes) + 1) 67152 rest 0 (world old) (world mid) (world new) ran.moments.later ran.moments.past
       few (omega (arith, great, short))
       (λ k from to image is_image.
       pays_as_before job plan step upto (now (world mid)) ((world new).moment k) (law mid (tidies.before told)) (holds is.sound).ready
@@ -291,55 +299,56 @@ module _ {S : Type 0} (tells : S → Bool) (world : S → World) (law : (s : S) 
     enough = spent_within (length job.bytes) lines left done step rest is.short is.few_lines
         (rest_is_great job lines paid rest (now (world old)).folder (law old tells_old) is)
 
-    module _ (so_far : PaysSoFar job paid spent rest (world old) (world mid)) (result : Result Entry Finish)
-        (steps : (paid rest : ℕ) → IsPaidStep job step gated paid rest (now (world mid)).folder → StepPays job paid rest result (world mid) (world new)) where
-      step_so : StepPays job (paid_now paid spent (world old) (world mid)) (unpaid done step (rest_of rest)) result (world mid) (world new)
-      step_so = steps (paid_now paid spent (world old) (world mid)) (unpaid done step (rest_of rest))
-          (step_paid job lines paid spent rest step gated (world old) (world mid) plan (law old tells_old) is reached within keeps later (holds is.sound)
+    module _ (spare left_over : ℕ) (so_far : PaysSoFar job paid spent rest spare (world old) (world mid)) (result : Result Entry Finish)
+        (steps : (paid rest : ℕ) → IsPaidStep job step gated paid rest (now (world mid)).folder
+        → StepPays job paid rest spare left_over result (world mid) (world new)) where
+      step_so : StepPays job (paid_now paid spent spare (world old) (world mid)) (unpaid done step (rest_of rest)) spare left_over result (world mid) (world new)
+      step_so = steps (paid_now paid spent spare (world old) (world mid)) (unpaid done step (rest_of rest))
+          (step_paid job lines paid spent rest spare step gated (world old) (world mid) plan (law old tells_old) is reached within keeps later (holds is.sound)
           (gates is.sound) so_far)
 
       -- steps stopped the run
       pub stopped_step : PaysThrough job paid ((world old).clock + rest) (world old) (world new)
-      stopped_step = step_on job paid spent (unpaid done step (rest_of rest)) rest result (world old) (world mid) (world new) past enough so_far step_so
+      stopped_step = step_on job paid spent (unpaid done step (rest_of rest)) rest spare left_over result (world old) (world mid) (world new) past enough so_far step_so
 
       -- or they were taken
       pub taken_step : (e : Entry) → result ≡ Ok e → step ≤ e.number
-          → PaysSoFar job paid (spent_at (length job.bytes) lines left done (e.number + 1) rest) rest (world old) (world new)
+          → PaysSoFar job paid (spent_at (length job.bytes) lines left done (e.number + 1) rest) rest left_over (world old) (world new)
       taken_step e ok from =
           let few = unpaid_few done step (rest_of rest) in
           let none = none_unpaid done e.number (rest_of rest) (omega (arith, reached, from)) in
-          so_more job paid (spent + unpaid done step (rest_of rest)) (spent_at (length job.bytes) lines left done (e.number + 1) rest) rest (world old) (world new)
+          so_more job paid (spent + unpaid done step (rest_of rest)) (spent_at (length job.bytes) lines left done (e.number + 1) rest) rest left_over (world old) (world new)
           (omega (arith, few, none))
-          (step_done job paid spent (unpaid done step (rest_of rest)) rest e (world old) (world mid) (world new) past enough so_far
-          (subst (λ r. StepPays job (paid_now paid spent (world old) (world mid)) (unpaid done step (rest_of rest)) r (world mid) (world new)) ok step_so))
+          (step_done job paid spent (unpaid done step (rest_of rest)) rest spare left_over e (world old) (world mid) (world new) past enough so_far
+          (subst (λ r. StepPays job (paid_now paid spent spare (world old) (world mid)) (unpaid done step (rest_of rest)) spare left_over r (world mid) (world new)) ok step_so))
 
   -- lines were said, or a part of them
-  pub lines_said : (step left count done : ℕ) (old mid new : S) (tells_old : IsTrue (tells old)) → Throughout (world mid) (world new) (Stays (now (world mid)))
+  pub lines_said : (step left count done spare : ℕ) (old mid new : S) (tells_old : IsTrue (tells old)) → Throughout (world mid) (world new) (Stays (now (world mid)))
       → (world new).clock ≤ (world mid).clock + 2 * count → count ≤ left → left ≤ lines → (paid rest : ℕ) → IsPaidRun job lines paid rest (now (world old)).folder
-      → PaysSoFar job paid (spent_at (length job.bytes) lines left done step rest) rest (world old) (world mid)
-      → PaysSoFar job paid (spent_at (length job.bytes) lines (left - count) done step rest) rest (world old) (world new)
-  lines_said step left count done old mid new tells_old stays few within all paid rest is so_far =
+      → PaysSoFar job paid (spent_at (length job.bytes) lines left done step rest) rest spare (world old) (world mid)
+      → PaysSoFar job paid (spent_at (length job.bytes) lines (left - count) done step rest) rest spare (world old) (world new)
+  lines_said step left count done spare old mid new tells_old stays few within all paid rest is so_far =
       let great = rest_is_great job lines paid rest (now (world old)).folder (law old tells_old) is in
       let short = is.short in
       let few_lines = is.few_lines in
       let less = unpaid_few done step (rest_of rest) in
       so_more job paid (spent_at (length job.bytes) lines left done step rest + 2 * count)
-      (spent_at (length job.bytes) lines (left - count) done step rest) rest (world old) (world new) (omega (arith, within, all))
-      (stays_on job paid (spent_at (length job.bytes) lines left done step rest) (2 * count) rest (world old) (world mid) (world new) stays few
+      (spent_at (length job.bytes) lines (left - count) done step rest) rest spare (world old) (world new) (omega (arith, within, all))
+      (stays_on job paid (spent_at (length job.bytes) lines left done step rest) (2 * count) rest spare (world old) (world mid) (world new) stays few
       (omega (arith, great, short, few_lines, less, within, all)) so_far)
 
   -- the last line was said, or a part of it
-  pub ends_so : (step left done : ℕ) (old mid new : S) (tells_old : IsTrue (tells old)) → Ticks (world mid) (world new)
+  pub ends_so : (step left done spare : ℕ) (old mid new : S) (tells_old : IsTrue (tells old)) → Ticks (world mid) (world new)
       → (now (world new)).folder ≡ (now (world mid)).folder → (paid rest : ℕ) → IsPaidRun job lines paid rest (now (world old)).folder
-      → PaysSoFar job paid (spent_at (length job.bytes) lines left done step rest) rest (world old) (world mid)
+      → PaysSoFar job paid (spent_at (length job.bytes) lines left done step rest) rest spare (world old) (world mid)
       → PaysThrough job paid ((world old).clock + rest) (world old) (world new)
-  ends_so step left done old mid new tells_old ticks same paid rest is so_far =
+  ends_so step left done spare old mid new tells_old ticks same paid rest is so_far =
       let great = rest_is_great job lines paid rest (now (world old)).folder (law old tells_old) is in
       let short = is.short in
       let few_lines = is.few_lines in
       let less = unpaid_few done step (rest_of rest) in
       let clock = ticks.clock_is in
-      (stays_on job paid (spent_at (length job.bytes) lines left done step rest) 1 rest (world old) (world mid) (world new)
+      (stays_on job paid (spent_at (length job.bytes) lines left done step rest) 1 rest spare (world old) (world mid) (world new)
       (said_stays (world mid) (world new) ticks same) (omega (arith, clock)) (omega (arith, great, short, few_lines, less)) so_far).stops
 
 -- the folder couldn't be entered
@@ -358,7 +367,7 @@ module _ (job : Job) (lines : ℕ) (path : List ℕ) (r : Result Unit Failed) (o
   entered_past k within =
       let clock = entered.ticks.clock_is in run.past k (omega (arith, within, clock)) ∙ entered.ticks.past k within
 
-  entered_pays : (paid rest : ℕ) → IsPaidRun job lines paid rest (now old).folder → PaysSoFar job paid (1 + rest) (2 + rest) old new
+  entered_pays : (paid rest : ℕ) → IsPaidRun job lines paid rest (now old).folder → PaysSoFar job paid (1 + rest) (2 + rest) 0 old new
   entered_pays paid rest is =
       let clock : mid.clock ≡ old.clock + 1 = entered.ticks.clock_is in
       let later : mid.clock ≤ new.clock = run.later in
@@ -369,7 +378,8 @@ module _ (job : Job) (lines : ℕ) (path : List ℕ) (r : Result Unit Failed) (o
       (pays paid rest (subst (λ (m : Moment). IsPaidRun job lines paid rest m.folder) (sym entered.same) is))) in
       record {
         stops = pays_more job paid paid (old.clock + (1 + rest)) (old.clock + (2 + rest)) old new (omega arith) (omega arith) all;
-        here = λ image is_image. all new.clock (omega (arith, clock, later)) (omega arith) image is_image;
+        here = λ image is_image. at_fewer job paid (old.clock + (1 + rest)) new.clock (new.clock + 0) (bytes_in image) (omega arith)
+            (all new.clock (omega (arith, clock, later)) (omega arith) image is_image);
       }
 
   pub entered_stops : StopsIn job lines 2 old new
@@ -382,7 +392,7 @@ module _ (job : Job) (lines : ℕ) (path : List ℕ) (r : Result Unit Failed) (o
         let clock = entered.ticks.clock_is in
         let later : mid.clock ≤ new.clock = run.later in
         says.moments.past k (omega (arith, within, clock, later)) ∙ entered_past k within;
-    pays = λ paid rest is. (stays_on job paid (1 + rest) 1 (2 + rest) old new last
+    pays = λ paid rest is. (stays_on job paid (1 + rest) 1 (2 + rest) 0 old new last
         (weakens new last (IsSaying line (now new)) (Stays (now new)) (λ m saying. saying.folder_is) says.moments) short (omega arith)
         (entered_pays paid rest is)).stops;
   }

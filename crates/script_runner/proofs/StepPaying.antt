@@ -9,7 +9,7 @@ use Rattle.bool_tables.specs.Plans.{IsWellFormed, operands}
 use Rattle.shelf_model.specs.declared.file_no.FileNo.{FileNo}
 use Rattle.shelf_model.specs.declared.sort_fault.SortFault.{SortFault}
 use Rattle.shelf_model.specs.Faults.{Faults}
-use Rattle.shelf_model.specs.File.{File, IsLeft, IsKept}
+use Rattle.shelf_model.specs.File.{IsLeft, IsKept}
 use Rattle.shelf_model.specs.Folder.{Folder, Image, file_in, bytes_in, IsImage, AreFiles}
 use Rattle.shelf_model.specs.World.{Moment, World, now}
 use Rattle.shelf_model.specs.Moments.{Ran}
@@ -195,10 +195,12 @@ module _ (job : Job) (k : ℕ) (few : AreFew job) (within : k < length job.steps
               })
         ]
 
-    -- and while what they leave behind is cut
+    -- and while what they leave behind is cut: five calls are to spare for each drop
     tidying_pays : (most : ℕ) (last new : World) → IsKept front (file_in (now last).folder catalogue) → AreTogether job.steps e end (now last).folder
         → Ran (TidiedTogether job.steps e end (now last)) last new
-        → new.clock ≤ most + 256 * (e.turns - shown) + 3 * (end - (k + 1)) → PaysThrough job paid most last new
+        → new.clock ≤ most + 256 * (e.turns - shown) + 3 * (end - (k + 1))
+        → (j : ℕ) → last.clock ≤ j → j ≤ new.clock → (image : Image) → IsImage (new.moment j).folder image
+        → PaysAt job paid most (j + 5 * (end - (k + 1))) (bytes_in image)
     tidying_pays most last new kept together run all j from to image is_image =
         let m : Moment = new.moment j in
         let same : JobStays (now last).folder m.folder =
@@ -211,7 +213,7 @@ module _ (job : Job) (k : ℕ) (few : AreFew job) (within : k < length job.steps
         (found.0, found.1, ap (λ xs. take 128 (drop (128 * i) xs)) bytes ∙ found.2) in
         let turns : committed_turns k (bytes_in image) ≡ turns_of k front =
         kept_turns k m.folder front size (subst (IsKept front) (sym (same catalogue refl)) kept) image is_image in
-        pays_after job end (bytes_in image) paid (turns_of k front) shown (e.turns + (end - (k + 1))) most j
+        pays_after job end (bytes_in image) paid (turns_of k front) shown (e.turns + (end - (k + 1))) most (j + 5 * (end - (k + 1)))
         (ready_counts end m.folder image (ready_same end (now last).folder m.folder same together.ready) is_image).count
         (turns_to end (bytes_in image) behind (omega arith) placed turns) less (omega (arith, fewer)) (omega (arith, to, all, fewer))
 
@@ -288,7 +290,7 @@ module _ {S : Type 0} (tells : S → Bool) (world : S → World) (counts : S →
   loosely most first last fewer pays = pays_more job paid paid most bound first last (omega arith) (omega (arith, fewer)) pays
 
   -- the step couldn't be run
-  pub stopped_pays : (finish : Finish) → StepPays job paid rest (Err finish) (world old) (world s)
+  pub stopped_pays : (finish : Finish) → StepPays job paid rest 0 0 (Err finish) (world old) (world s)
   stopped_pays finish = record { stops = loosely most (world old) (world s) (omega arith) made_pays; ends = tt }
 
   -- it was made
@@ -349,7 +351,7 @@ module _ {S : Type 0} (tells : S → Bool) (world : S → World) (counts : S →
 
     -- its commit failed
     pub commit_stopped : (finish : Finish) (t : S) → Ran (DuringTogether job.steps e end (now (world s))) (world s) (world t)
-        → (world t).clock ≤ (world s).clock + (2 * (end - e.number) + 3) → StepPays job paid rest (Err finish) (world old) (world t)
+        → (world t).clock ≤ (world s).clock + (2 * (end - e.number) + 3) → StepPays job paid rest 0 0 (Err finish) (world old) (world t)
     commit_stopped finish t commits short = record { stops = committed_pays t commits short; ends = tt }
 
     -- it was committed, and what they leave behind was cut, or a part of that
@@ -362,8 +364,9 @@ module _ {S : Type 0} (tells : S → Bool) (world : S → World) (counts : S →
           let size = is.holds.entries.size in
           (ran_end (world s) (world t) (DuringTogether job.steps e end (now (world s))) commits).kept front (omega (arith, size, number)) kept_s
 
-      cut_pays : PaysThrough job paid least (world t) (world u)
-      cut_pays =
+      spares_at : (j : ℕ) → (world t).clock ≤ j → j ≤ (world u).clock → (image : Image) → IsImage ((world u).moment j).folder image
+          → PaysAt job paid least (j + 5 * (end - (k + 1))) (bytes_in image)
+      spares_at =
           let cut : (world u).clock ≤ (world t).clock + (cut_calls gated p.step e.parts + (end - (e.number + 1))) =
           subst (λ x. (world u).clock ≤ (world t).clock + (cut_calls gated x e.parts + (end - (e.number + 1))))
           (ap (λ i. (step_at job i).step) number ∙ place_is) tidied in
@@ -371,15 +374,24 @@ module _ {S : Type 0} (tells : S → Bool) (world : S → World) (counts : S →
           tidying_pays job k plan.few_steps within front is.holds.entries.size paid shown less plan e number end behind upto drops_are fits ended.0 least
           (world t) (world u) kept_t together cuts (omega (arith, one, short, cut, number, behind))
 
+      cut_pays : PaysThrough job paid least (world t) (world u)
+      cut_pays j from to image is_image =
+          let at = spares_at j from to image is_image in
+          let few = at.few in
+          record { no_fewer = at.no_fewer; few = omega (arith, few) }
+
       all_pays : PaysThrough job paid bound (world old) (world u)
       all_pays = pays_join job paid bound (world old) (world t) (world u) cuts.moments.past (committed_pays t commits short)
           (loosely least (world t) (world u) (omega arith) cut_pays)
 
-      pub tidy_stopped : (finish : Finish) → StepPays job paid rest (Err finish) (world old) (world u)
+      pub tidy_stopped : (finish : Finish) → StepPays job paid rest 0 0 (Err finish) (world old) (world u)
       tidy_stopped finish = record { stops = all_pays; ends = tt }
 
-      pub took_pays : (d : Entry) → StepPays job paid rest (Ok d) (world old) (world u)
-      took_pays d = record {
+      pub took_pays : (d : Entry) → d.number + 1 ≡ end → StepPays job paid rest 0 (5 * (d.number - k)) (Ok d) (world old) (world u)
+      took_pays d last_is = record {
         stops = all_pays;
-        ends = λ image is_image. cut_pays (world u).clock cuts.moments.later (omega arith) image is_image;
+        ends = λ image is_image.
+            let at = spares_at (world u).clock cuts.moments.later (omega arith) image is_image in
+            let few = at.few in
+            record { no_fewer = at.no_fewer; few = omega (arith, few, last_is) };
       }

@@ -31,7 +31,7 @@ use Rattle.step_work.specs.Tuples.{joins as joins_pieces, sweeps}
 use Rattle.sound_image.specs.Files.{node_file}
 use Rattle.step_work.specs.Plans.{no_step}
 use Rattle.sound_image.specs.Jobs.{Job, step_at}
-use Rattle.sound_image.specs.Entries.{IsEntryOfStep, kind_of, work_of}
+use Rattle.sound_image.specs.Entries.{IsEntryOfStep, work_of}
 use Rattle.sound_image.specs.Holds.{Holds, IsMade, AreResumable, NoneGated}
 use Rattle.sound_image.specs.Steps.{IsOwnFile, OnlyOwnFiles, IsCutBy, parts_end}
 use Rattle.sound_image.proofs.Numbers.{IsOfStep, not_catalogue, not_step_gate}
@@ -619,8 +619,8 @@ module _ {S : Type 0} (tells : S → Bool) (world : S → World) (counts : S →
     few_made : (world s).clock
         ≤ (world old).clock + (cond (sweeps p.step) (229 * work_of job p.step + 13) 5 + (rest - 1606))
     few_made = elim counted [
-      | inl one ↦
-          let unswept : sweeps p.step ≡ false = ap sweeps (sym place_is) ∙ one in
+      | inl each ↦
+          let unswept : sweeps p.step ≡ false = ap sweeps (sym place_is) ∙ each k within in
           let few = runs.one_turn tells_s unswept in
           subst (λ b. (world s).clock ≤ (world old).clock + (cond b (229 * work_of job p.step + 13) 5 + (rest - 1606)))
           (sym unswept) (omega (arith, few))
@@ -659,16 +659,16 @@ module _ {S : Type 0} (tells : S → Bool) (world : S → World) (counts : S →
 
       of_entry : (sweeps p.step ≡ false) ⊎ (FewTaken gated e.parts e.turns rest × (e.turns ≤ work_of job p.step))
       of_entry = elim counted [
-        | inl one ↦ inl (ap sweeps (sym place_is) ∙ one)
+        | inl each ↦ inl (ap sweeps (sym place_is) ∙ each k within)
         | inr (holds, known, pays) ↦
             let entry : IsEntryOfStep job k e = runs.entry tells_s job (record { step = the_step; holds = λ reads. holds }) in
             inr (few_taken e old s runs tells_s holds gated known rest pays, subst (λ x. e.turns ≤ work_of job x) place_is entry.turns_are.1)
       ]
 
-  -- those of taking it together with the drops behind it: three at most for each of these
+  -- those of taking it together with the drops behind it: three at most for each of these, so that five are to spare
   calls_to : (end until : ℕ) → k < end → end ≤ until → until ≤ length job.steps → (rest first most new : ℕ)
       → most ≤ first + (step_calls job p + rest) → new ≤ most + 3 * (end - (k + 1))
-      → new + calls_before job k ≤ first + (calls_before job until + rest)
+      → new + 5 * (end - (k + 1)) + calls_before job k ≤ first + (calls_before job until + rest)
   calls_to end until behind short all rest first most new one more =
       let own : calls_before job (k + 1) ≡ calls_before job k + step_calls job p =
       calls_of_one_more job k within ∙ ap (λ q. calls_before job k + step_calls job q) (sym p_is) in
@@ -684,8 +684,9 @@ module _ {S : Type 0} (tells : S → Bool) (world : S → World) (counts : S →
       → IsCounted job k gated (now (world old)).folder rest
       → (world s).clock + calls_before job k ≤ (world old).clock + (calls_before job until + rest)
   stopped_calls until more all old s result runs tells_s gated rest counted =
-      calls_to (k + 1) until (omega arith) (omega (arith, more)) all rest (world old).clock (world s).clock (world s).clock
-      (few_calls old s result runs tells_s gated rest counted (world s).clock (world s).clock (omega arith) (omega arith)) (omega arith)
+      let few = calls_to (k + 1) until (omega arith) (omega (arith, more)) all rest (world old).clock (world s).clock (world s).clock
+      (few_calls old s result runs tells_s gated rest counted (world s).clock (world s).clock (omega arith) (omega arith)) (omega arith) in
+      omega (arith, few)
 
   module _ (end until : ℕ) (behind : k < end) (short : end ≤ until) (all : until ≤ length job.steps) (e : Entry) (old s : S)
       (runs : MakesStep tells world counts job.n job.text k p old s (Ok e)) (tells_s : IsTrue (tells s)) (gated : Bool) (rest : ℕ)
@@ -695,14 +696,15 @@ module _ {S : Type 0} (tells : S → Bool) (world : S → World) (counts : S →
         → new + calls_before job k ≤ (world old).clock + (calls_before job until + rest)
     committing_calls new commits =
         let number = runs.fits.number_is in
-        calls_to end until behind short all rest (world old).clock ((world s).clock + 5) new
+        let few = calls_to end until behind short all rest (world old).clock ((world s).clock + 5) new
         (few_calls old s (Ok e) runs tells_s gated rest counted ((world s).clock + 5) ((world s).clock + 5) (omega arith) (omega arith))
-        (omega (arith, commits, number, behind))
+        (omega (arith, commits, number, behind)) in
+        omega (arith, few)
 
     -- or it was, and what they leave behind was cut, or a part of that
     pub together_calls : (last new : ℕ) → last ≤ (world s).clock + (2 * (end - e.number) + 3)
         → new ≤ last + (cut_calls gated (step_at job e.number).step e.parts + (end - (e.number + 1)))
-        → new + calls_before job k ≤ (world old).clock + (calls_before job until + rest)
+        → new + 5 * (end - (k + 1)) + calls_before job k ≤ (world old).clock + (calls_before job until + rest)
     together_calls last new commits tidied =
         let number = runs.fits.number_is in
         let cuts : new ≤ last + (cut_calls gated p.step e.parts + (end - (e.number + 1))) =

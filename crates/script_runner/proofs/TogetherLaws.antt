@@ -1,5 +1,5 @@
 -- What stays sound while a step is committed together with the drops behind it, and while what they leave is cut.
-use Rattle.std.proofs.Common.{◌≡◌, ◌∙◌, ℕ, ◌+◌, ◌*◌, ◌^◌, ◌<◌, ◌≤◌, false, List, length, take, get_or, refl, sym, ap, subst, inl, inr, arith}
+use Rattle.std.proofs.Common.{◌≡◌, ◌∙◌, ℕ, ◌+◌, ◌*◌, ◌<◌, ◌≤◌, false, List, length, take, get_or, refl, sym, ap, subst, inl, inr, arith}
 use Rattle.std.specs.Prelude.{IsTrue}
 use Rattle.std.proofs.lemmas.Bool.{cases_lt}
 use Rattle.std.proofs.lemmas.Cmp.{nat_eq_equiv}
@@ -8,10 +8,10 @@ use Rattle.bool_tables.specs.declared.steps.Planned.{Planned}
 use Rattle.bool_tables.specs.Plans.{IsWellFormed, is_live, drops, makes_diagram}
 use Rattle.shelf_model.specs.declared.file_no.FileNo.{FileNo}
 use Rattle.shelf_model.specs.File.{File, firm_file}
-use Rattle.shelf_model.specs.Folder.{Folder, Image, file_in, bytes_in, IsImage, AreFiles}
+use Rattle.shelf_model.specs.Folder.{Image, file_in, bytes_in, IsImage, AreFiles}
 use Rattle.shelf_model.specs.World.{Moment}
 use Rattle.catalogue.specs.declared.layout.Entry.{Entry}
-use Rattle.catalogue.specs.Files.{job_step, job_file, catalogue}
+use Rattle.catalogue.specs.Files.{job_step, job_file}
 use Rattle.catalogue.specs.Counts.{is_stored, count_in, entry_at}
 use Rattle.catalogue.specs.Entries.{entry_bytes}
 use Rattle.catalogue.specs.Standings.{without_budget}
@@ -23,7 +23,6 @@ use Rattle.sound_image.specs.Jobs.{Job, table_at, file_of, step_at}
 use Rattle.sound_image.specs.Entries.{IsEntryOfStep}
 use Rattle.sound_image.specs.Sound.{IsSound, IsResumableAt}
 use Rattle.sound_image.specs.Holds.{Holds, IsMade, NoneGated}
-use Rattle.sound_image.specs.Steps.{IsCutBy}
 use Rattle.sound_image.proofs.Numbers.{IsOfStep, node_of_step, gate_of_step, not_catalogue, not_step_gate}
 use Rattle.sound_image.proofs.HoldsLaws.{sound_with, kept_entries, held}
 use Rattle.sound_image.proofs.Resuming.{AreFew, RestsOnSteps, early, none_resumes, none_next, none_gated_resumes, none_behind, resumable_kept}

@@ -9,8 +9,8 @@ use Rattle.bool_tables.specs.declared.steps.Step.TheVariants.{Drop}
 use Rattle.bool_tables.specs.declared.steps.Planned.{Planned}
 use Rattle.shelf_model.specs.declared.file_no.FileNo.{FileNo}
 use Rattle.shelf_model.specs.declared.fault.Failed.{Failed}
-use Rattle.shelf_model.specs.File.{File, firm_file, IsKept}
-use Rattle.shelf_model.specs.Folder.{Folder, Image, file_in, bytes_in, IsImage}
+use Rattle.shelf_model.specs.File.{File, firm_file}
+use Rattle.shelf_model.specs.Folder.{Folder, file_in, bytes_in}
 use Rattle.shelf_model.specs.World.{Moment, World, now, file}
 use Rattle.shelf_model.specs.Calls.{Told, WasCut}
 use Rattle.shelf_model.specs.Faults.{Faults, OnlyFolder}
@@ -30,7 +30,7 @@ use Rattle.sound_image.proofs.HoldsLaws.{entry_in_front}
 use Rattle.step_engine.specs.OneFile.{OnlyTidied}
 use Rattle.step_engine.specs.StepEntries.{nameless_entry, one_turn}
 use Rattle.step_engine.proofs.Cutting.{cut_tidies}
-use Rattle.script_runner.specs.Together.{IsEntryWith, ArePlaced, ArePutTogether, IsCountedTo, DuringTogether, AreTogether, OnlyEmptied, IsDropped, IsCutTogether, TidiedTogether}
+use Rattle.script_runner.specs.Together.{ArePutTogether, DuringTogether, AreTogether, OnlyEmptied, IsDropped, TidiedTogether}
 
 -- the entries of two catalogues that have the same front are the same there
 same_entry_at : (k n : ℕ) (xs ys : List ℕ) → k < n → 128 * n ≤ length ys → take (128 * n) xs ≡ take (128 * n) ys
@@ -305,6 +305,18 @@ dropped_more steps from k gone f old new f_is before drops_it cut j other least 
   where
     was : WasCut (node_file gone) 0 (Ok tt) old new
     was = subst (λ q. WasCut q 0 (Ok tt) old new) f_is cut
+
+-- a step that is no drop leaves what was cut before
+pub dropped_none : (steps : List Planned) (from k : ℕ) (at : World)
+    → ((j other : ℕ) → from ≤ j → j < k → (get_or steps j no_step).step ≡ Drop other → (file at (node_file other)).bytes ≡ [])
+    → ((gone : ℕ) → (get_or steps k no_step).step ≡ Drop gone → ⊥)
+    → (j other : ℕ) → from ≤ j → j < k + 1 → (get_or steps j no_step).step ≡ Drop other → (file at (node_file other)).bytes ≡ []
+dropped_none steps from k at before none j other least below is = elim (cases_lt j k) [
+  | inl earlier ↦ before j other least earlier is
+  | inr last ↦
+      let same : k ≡ j = omega (arith, below, last) in
+      absurd (none other (ap (λ i. (get_or steps i no_step).step) same ∙ is))
+]
 
 -- the counts of two calls, one after the other
 pub faults_on : {T U : Type 0} (old mid new : Faults) (x : T) (y : U) → OnlyFolder {T = Unit} old mid (Ok tt)

@@ -1,5 +1,5 @@
 -- The parts of a run over a station, whether it tells its content or not.
-use Rattle.std.proofs.Common.{◌≡◌, ◌∙◌, ℕ, ◌+◌, ◌-◌, ◌*◌, ◌/◌, ◌<◌, ◌≤◌, min, Bool, true, false, not, cond, nat_lt, List, [], ◌++◌, length, take, drop, get_or, refl, sym, ap, subst, inl, inr, arith}
+use Rattle.std.proofs.Common.{◌≡◌, ◌∙◌, ℕ, ◌+◌, ◌-◌, ◌*◌, ◌/◌, ◌<◌, ◌≤◌, min, Bool, true, false, not, cond, nat_lt, List, [], ◌++◌, length, take, drop, refl, sym, ap, subst, inl, inr, arith}
 use Rattle.std.specs.Prelude.{IsTrue, Result, Ok, Err, OnOk, if◌then◌else◌}
 use Rattle.std.specs.List.{list_all, sum_by}
 use Rattle.std.proofs.lemmas.Bool.{cases_lt}
@@ -23,7 +23,6 @@ use Rattle.catalogue.specs.Entries.{IsEntryOf, entry_bytes}
 use Rattle.catalogue.specs.Commits.{IsReady}
 use Rattle.catalogue.specs.Standings.{without_budget, standing_of, DuringAttach, IsAttached}
 use Rattle.catalogue.proofs.Places.{length_entry}
-use Rattle.step_work.specs.Plans.{no_step}
 use Rattle.sound_image.specs.Jobs.{Job}
 use Rattle.sound_image.specs.Entries.{IsEntryOfStep}
 use Rattle.sound_image.specs.Sound.{ShowsSteps}
@@ -40,8 +39,7 @@ use Rattle.script_runner.specs.Running.{HasSaid, HasOtherJob, IsOther, IsDamage,
 use Rattle.script_runner.specs.StepRuns.{IsTaking, HoldsSteps, TakesSteps, IsSayStop, SaysLines}
 use Rattle.script_runner.specs.Calls.{step_calls, calls_before, IsGated, IsCounted, AreCounted}
 use Rattle.sound_image.specs.Files.{node_file}
-use Rattle.sound_image.proofs.EntryLaws.{entry_stands}
-use Rattle.script_runner.specs.Tidied.{TidiedLast, TidyCosts, EmptiesLast, MayBeLast}
+use Rattle.script_runner.specs.Tidied.{TidiedLast, TidiesFor, TidyCosts, EmptiesLast, may_wait}
 use Rattle.script_runner.proofs.Taking.{calls_of_one_more, calls_least}
 use Rattle.script_runner.proofs.LastTidied.{tidied_at, last_paid}
 use Rattle.script_runner.proofs.LineOrder.{ended_is, ended_most}
@@ -116,7 +114,7 @@ by_saying job lines old new run same =
 to_the_end : (job : Job) (lines : List LineEnd) (old new : World) → Ongoing job lines old new → IsThisJob job old
     → (AreSound job (now old).folder → said new ≡ said old ++ text_at job lines old) → HaveCount (length job.steps) (now new).folder
     → AreEmptied job.steps (done_at old) (length job.steps) (now new).folder
-    → (AreSound job (now old).folder → AreEmptied job.steps (done_at old - 1) (length job.steps) (now new).folder)
+    → (AreSound job (now old).folder → AreEmptied job.steps (may_wait (done_at old)) (length job.steps) (now new).folder)
     → (AreSound job (now old).folder → IsLean job (done_at old) (now old).folder → IsLean job (length job.steps) (now new).folder)
     → HasSaid (λ text folder. IsWholeShape job.steps lines (present (now old).folder) (present folder) text) (now old) (now new) → RunsSteps job lines Done old new
 to_the_end job lines old new run same whole all emptied last lean says = record {
@@ -361,12 +359,16 @@ module _ {S : Type 0} (tells : S → Bool) (world : S → World) (law : (s : S) 
         let k : ℕ = found.0 in
         let is = found.1 in
         let below = is.within in
-        let own = last_paid job plan.well_formed step upto paid (step - (k + 1)) k (now (world old)).folder (world s) (world t) is counted
-        (λ sound. (turn.0.sound sound).holds) found.2 in
+        let others : step - may_wait step ≡ step - may_wait step - 1 + 1 = omega (arith, some) in
+        let own = last_paid job plan.well_formed step upto paid (step - may_wait step - 1) k (now (world old)).folder (world s) (world t) is counted
+        (λ sound. (turn.0.sound sound).holds) (subst (λ n. TidiesFor job.steps k n (world s) (world t)) others found.2) in
         let more = calls_of_one_more job k (omega (arith, below, upto)) in
+        let first : 0 + k ≡ k = omega arith in
+        let before : calls_before job 0 + 11 * k ≤ calls_before job k =
+        subst (λ n. calls_before job 0 + 11 * k ≤ calls_before job n) first (calls_least job 0 k (omega (arith, below, upto))) in
         let all : k + 1 + (step - (k + 1)) ≡ step = omega (arith, below) in
         let behind = calls_least job (k + 1) (step - (k + 1)) (omega (arith, below, upto)) in
-        subst (λ n. (world t).clock ≤ (world s).clock + calls_before job n) all (omega (arith, own, more, behind))
+        subst (λ n. (world t).clock ≤ (world s).clock + calls_before job n) all (omega (arith, own, more, before, behind, below))
     | inr none ↦ let idle = costs.none (omega (arith, none)) in omega (arith, idle)
   ]
 
@@ -475,7 +477,7 @@ module _ {S : Type 0} (tells : S → Bool) (world : S → World) (law : (s : S) 
       × ((AreSound job (now (world old)).folder → said (world t) ≡ said (world old) ++ text_at job lines (world old)) × HaveCount (length job.steps) (now (world t)).folder
       × AreEmptied job.steps (done_at (world old)) (length job.steps) (now (world t)).folder
       × HasSaid (λ text folder. IsWholeShape job.steps lines (present (now (world old)).folder) (present folder) text) (now (world old)) (now (world t))))
-      → (IsTrue (tells t) → AreSound job (now (world old)).folder → AreEmptied job.steps (done_at (world old) - 1) (length job.steps) (now (world t)).folder)
+      → (IsTrue (tells t) → AreSound job (now (world old)).folder → AreEmptied job.steps (may_wait (done_at (world old))) (length job.steps) (now (world t)).folder)
       → (IsTrue (tells t) → AreSound job (now (world old)).folder → IsLean job (done_at (world old)) (now (world old)).folder
       → IsLean job (length job.steps) (now (world t)).folder)
       → Told tells old t (RunsSteps job lines Done (world old) (world t))
@@ -486,23 +488,12 @@ module _ {S : Type 0} (tells : S → Bool) (world : S → World) (law : (s : S) 
         to_the_end job lines (world old) (world t) both.0.0 both.0.1 both.1.0 both.1.1 both.1.2 (last tells_t) (lean tells_t) both.1.3;
   }
 
-  -- behind that what the last committed step dropped is empty
+  -- behind that what the steps of the last commit dropped is empty
   pub emptied_at_first : (step : ℕ) (rest : List LineEnd) (old s t : S) → Told tells old s (Turn job lines step rest (world old) (world s)) → IsTrue (tells s)
       → step ≡ done_at (world old) → EmptiesLast job.steps step (now (world s)).folder (now (world t)).folder → AreSound job (now (world old)).folder
-      → AreEmptied job.steps (done_at (world old) - 1) step (now (world t)).folder
+      → AreEmptied job.steps (may_wait (done_at (world old))) step (now (world t)).folder
   emptied_at_first step rest old s t so_far tells_s is empties sound k from until gone drops_it =
-      let upto = (so_far.did tells_s).0.upto in
-      let holds = ((so_far.did tells_s).0.sound sound).holds in
-      let here : k ≡ step - 1 = omega (arith, from, until, is) in
-      let last : MayBeLast job.steps step (step - 1) = record {
-        planned = upto;
-        within = omega (arith, until);
-        few = omega (arith, until);
-        drops = λ j behind before. absurd (omega (arith, behind, before));
-      } in
-      let found = entry_stands job step (step - 1) (now (world s)).folder holds (omega (arith, until)) in
-      (empties (step - 1) last found.0 (record { entry = found.1.entry_is; number = found.1.number_is; bytes = found.2 }) found.1.kind_is).dropped gone
-      (ap (λ i. (get_or job.steps i no_step).step) (sym here) ∙ drops_it)
+      empties.dropped (so_far.did tells_s).0.upto k gone (omega (arith, from, is)) until drops_it
 
   -- and behind steps that are taken from there on, and their lines
   pub emptied_on : (from step until : ℕ) (e : Entry) (s t u : World) → until ≤ length job.steps → TakesSteps job step until (Ok e) s t
@@ -527,7 +518,7 @@ module _ {S : Type 0} (tells : S → Bool) (world : S → World) where
       (rest : List LineEnd) (gated : Bool) (old s : S) (paid : ℕ) → step < length job.steps → Told tells old s (Turn job lines step rest (world old) (world s))
       → IsTrue (tells s) → (AreSound job (now (world old)).folder → IsGated gated step (now (world old)).folder)
       → AreCounted job (now (world old)).folder paid → IsCounted job step gated (now (world s)).folder (unpaid (done_at (world old)) step paid)
-  is_counted law job lines plan step rest gated old s paid within so_far tells_s gates (inl each) = inl (each step within)
+  is_counted law job lines plan step rest gated old s paid within so_far tells_s gates (inl each) = inl each
   is_counted law job lines plan step rest gated old s paid within so_far tells_s gates (inr (sound, pays)) =
       let at : AtStep job lines step rest (world old) (world s) = (so_far.did tells_s).0 in
       inr (

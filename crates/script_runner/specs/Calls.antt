@@ -30,6 +30,16 @@ abbrev pub taken_to : {E : Type 0} → Result Entry E → ℕ → ℕ
 taken_to (Ok e) until = e.number + 1
 taken_to (Err fault) until = until
 
+-- the calls that steps which are committed together with the first one are sure to spare: five for each, as these drop
+abbrev pub spared_by : {E : Type 0} → Result Entry E → ℕ → ℕ
+spared_by (Ok e) step = 5 * (e.number - step)
+spared_by (Err fault) step = 0
+
+-- so many calls are left where steps were taken, and none where they stopped the run
+abbrev pub left_by : {E : Type 0} → Result Entry E → ℕ → ℕ
+left_by (Ok e) left = left
+left_by (Err fault) left = 0
+
 -- 9 and one for each piece of the job while it is attached, those of each step, two for each line, and the banner and
 -- the last line
 abbrev pub most_calls : Job → ℕ → ℕ
@@ -57,16 +67,19 @@ abbrev pub PaysFirst : Job → Folder → ℕ → Type 0
 PaysFirst job folder rest = count_in (present folder) < length job.steps
     → PaysStep job (count_in (present folder)) folder rest
 
--- the turns of the step are bounded: it takes one, or the folder holds the steps before it, it is known whether
--- something is gated of it, and so many calls pay for going on with it
+-- each step of the job takes one turn
+abbrev pub EachTakesOne : Job → Type 0
+EachTakesOne job = (k : ℕ) → k < length job.steps → sweeps (step_at job k).step ≡ false
+
+-- the turns of the steps from step k on are bounded: each takes one, or the folder holds the steps before it, it is
+-- known whether something is gated of it, and so many calls pay for going on with it
 abbrev pub IsCounted : Job → ℕ → Bool → Folder → ℕ → Type 0
-IsCounted job k gated folder rest = (sweeps (step_at job k).step ≡ false)
+IsCounted job k gated folder rest = EachTakesOne job
     ⊎ (Holds job k folder × IsGated gated k folder × PaysStep job k folder rest)
 
 -- those of all steps are: each takes one, or the folder is sound for the job, and so many calls pay for going on in it
 abbrev pub AreCounted : Job → Folder → ℕ → Type 0
-AreCounted job folder rest = ((k : ℕ) → k < length job.steps → sweeps (step_at job k).step ≡ false)
-    ⊎ (AreSound job folder × PaysFirst job folder rest)
+AreCounted job folder rest = EachTakesOne job ⊎ (AreSound job folder × PaysFirst job folder rest)
 
 -- a text is read in pieces, and once more where it ends
 abbrev pub fetch_calls : ℕ → ℕ

@@ -119,9 +119,9 @@ pub record RunsFrom (job : Job) (lines : List LineEnd) (status : ℕ) (start : M
   pub all : status ≡ 0 → HaveCount (length job.steps) (now new).folder
   pub emptied : status ≡ 0
       → AreEmptied job.steps (count_in (present start.folder)) (length job.steps) (now new).folder
-  -- where each image was sound at first so is what the last step dropped that was committed then
+  -- where each image was sound at first so is what the last 1,024 steps dropped that were committed then
   pub emptied_last : AreSound job start.folder → status ≡ 0
-      → AreEmptied job.steps (count_in (present start.folder) - 1) (length job.steps) (now new).folder
+      → AreEmptied job.steps (count_in (present start.folder) - 1024) (length job.steps) (now new).folder
   -- and where that folder was lean it is lean: nothing is left over of any step
   pub lean : AreSound job start.folder → status ≡ 0
       → IsLean job (count_in (present start.folder)) start.folder → IsLean job (length job.steps) (now new).folder

@@ -11,6 +11,7 @@ pub mod StepRuns
 pub mod Calls
 pub mod Begun
 pub mod Stops
+pub mod AtOnce
 pub mod Tidied
 pub mod Fetching
 pub mod Netlists

@@ -248,9 +248,9 @@ pub record RunsSteps (job : Job) (lines : List LineEnd) (finish : Finish) (old n
   pub all : finish ≡ Done → HaveCount (length job.steps) (now new).folder
   pub emptied : finish ≡ Done
       → AreEmptied job.steps (count_in (present (now old).folder)) (length job.steps) (now new).folder
-  -- where each image was sound at first so is what the last step dropped that was committed then
+  -- where each image was sound at first so is what the last 1,024 steps dropped that were committed then
   pub emptied_last : AreSound job (now old).folder → finish ≡ Done
-      → AreEmptied job.steps (count_in (present (now old).folder) - 1) (length job.steps) (now new).folder
+      → AreEmptied job.steps (count_in (present (now old).folder) - 1024) (length job.steps) (now new).folder
   -- and where that folder was lean it is lean
   pub lean : AreSound job (now old).folder → finish ≡ Done
       → IsLean job (count_in (present (now old).folder)) (now old).folder

@@ -105,9 +105,10 @@ pub record IsPaidStep (job : Job) (k : ℕ) (is_gated : Bool) (paid rest : ℕ) 
 abbrev pub most_together : ℕ
 most_together = 2051
 
--- at each moment of it, and of the drops that are committed together with it, a stop costs what an interval and its
--- saving do besides, and what commits them; and once they were taken nothing more than what paid for going on
-pub record StepPays (job : Job) (paid rest : ℕ) (result : Result Entry Finish) (old new : World) : Type 0 where
+-- at each moment of it, and of the steps that are committed behind it, a stop costs what an interval and its saving do
+-- besides, and what commits them; and once they were taken nothing more than what paid for going on, and what there
+-- was to spare, of which so many calls are left
+pub record StepPays (job : Job) (paid rest spare left : ℕ) (result : Result Entry Finish) (old new : World) : Type 0 where
   pub stops : PaysThrough job paid (old.clock + (run_stop + most_together + rest)) old new
   pub ends : OnOk result ((image : Image) → IsImage (now new).folder image
-      → PaysAt job paid (old.clock + rest) new.clock (bytes_in image))
+      → PaysAt job paid (old.clock + (rest + spare)) (new.clock + left) (bytes_in image))

@@ -19,13 +19,14 @@ use Rattle.sound_image.specs.Steps.{IsCutBy}
 use Rattle.sweep_core.specs.declared.checkpoint.Checkpoint.{Checkpoint}
 use Rattle.step_engine.specs.LeftBehind.{IsLastPoint, IsLeftBehind}
 use Rattle.script_runner.specs.Calls.{cut_calls}
-use Rattle.script_runner.specs.Together.{AreDrops, OnlyEmptied}
+use Rattle.script_runner.specs.Together.{AreDrops, OnlyEmptied, IsDropped}
 
 -- step k of the plan
 abbrev pub planned_step : List Planned → ℕ → Step
 planned_step steps k = (get_or steps k no_step).step
 
--- the last commit may have had step k: the committed steps behind it are drops, and with it they are 1,024 at most
+-- the last commit may have been that of step k and the drops behind it: the committed steps behind it are drops, and
+-- with it they are 1,024 at most
 pub record MayBeLast (steps : List Planned) (done k : ℕ) : Type 0 where
   pub planned : done ≤ length steps
   pub within : k < done
@@ -36,9 +37,15 @@ pub record MayBeLast (steps : List Planned) (done k : ℕ) : Type 0 where
 abbrev pub IsCutOf : List Planned → ℕ → FileNo → Type 0
 IsCutOf steps k f = (next : ℕ) × IsCutBy (planned_step steps k) k next f
 
--- or where the steps of the last commit are
+-- the first of the steps that the last commit may have had, 1,024 at most
+abbrev pub may_wait : ℕ → ℕ
+may_wait done = done - 1024
+
+-- a file that is cut where the steps of the last commit are tidied up: one of such a step k, or of a diagram that one of
+-- 1,024 steps dropped, as these may have been committed together too
 abbrev pub IsCutLast : List Planned → ℕ → FileNo → Type 0
-IsCutLast steps done f = (k : ℕ) × MayBeLast steps done k × IsCutOf steps k f
+IsCutLast steps done f = ((k : ℕ) × MayBeLast steps done k × IsCutOf steps k f)
+    ⊎ IsDropped steps (may_wait done) done f
 
 -- no other file changed, and what held no byte holds none
 abbrev pub TidiedLast : List Planned → ℕ → Moment → Moment → Type 0
@@ -59,13 +66,13 @@ TidiesFor steps k besides old new = (new.clock ≤ old.clock + (1 + besides))
     ⊎ ((e : Entry) × IsEntryOf k (present (now old).folder) e
     × (new.clock ≤ old.clock + (1 + last_calls (planned_step steps k) e + besides)))
 
--- the calls are 67,151 at most: none where no step is committed, and else those of the first of the steps that the last
--- commit may have had, and one for each drop behind it
+-- the calls are 67,152 at most: none where no step is committed, and else those of such a step k, and one for each step
+-- that the last commit may have had
 pub record TidyCosts (steps : List Planned) (done : ℕ) (old new : World) : Type 0 where
-  pub most : new.clock ≤ old.clock + 67151
+  pub most : new.clock ≤ old.clock + 67152
   pub none : done ≡ 0 → new.clock ≤ old.clock
   pub few : 0 < done → done ≤ length steps
-      → (k : ℕ) × MayBeLast steps done k × TidiesFor steps k (done - (k + 1)) old new
+      → (k : ℕ) × MayBeLast steps done k × TidiesFor steps k (done - may_wait done) old new
 
 -- what is emptied by the entry of step k: the file of the diagram that it drops, or of a step that swept what one
 -- leaves behind that went on from its last gated checkpoint
@@ -80,6 +87,9 @@ abbrev pub EmptiesBy : List Planned → ℕ → Folder → Folder → Type 0
 EmptiesBy steps k old new = (e : Entry) → IsEntryOf k (present old) e → e.kind ≡ kind_of (planned_step steps k)
     → IsEmptiedBy steps k e old new
 
--- of each step that the last commit may have had
-abbrev pub EmptiesLast : List Planned → ℕ → Folder → Folder → Type 0
-EmptiesLast steps done old new = (k : ℕ) → MayBeLast steps done k → EmptiesBy steps k old new
+-- what such a step k left behind is empty, and so are the files of the diagrams that the steps which the last commit may
+-- have had dropped
+pub record EmptiesLast (steps : List Planned) (done : ℕ) (old new : Folder) : Type 0 where
+  pub first : (k : ℕ) → MayBeLast steps done k → EmptiesBy steps k old new
+  pub dropped : done ≤ length steps → (k gone : ℕ) → may_wait done ≤ k → k < done → planned_step steps k ≡ Drop gone
+      → (file_in new (node_file gone)).bytes ≡ []

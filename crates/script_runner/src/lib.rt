@@ -3,6 +3,7 @@
 #![tactic(auto)]
 
 mod anew;
+mod at_once;
 mod banner;
 mod begin;
 mod ending;

@@ -14,7 +14,7 @@ use crate::banner::banner_line;
 use crate::begin::begin;
 use crate::given_job::Job;
 use crate::say::{count_before, next_end, say_lines};
-use crate::step::take_steps;
+use crate::step::take_next;
 use crate::tidy_last::tidy_last;
 use bool_tables::Planned;
 use catalogue::AttachFault;
@@ -97,12 +97,13 @@ pub(crate) fn run_job<W: Station>(job: &Job, room: &mut [Rec], station: &mut W) 
     };
     let mut rest = job.lines.split_at(before).1;
     let mut gone_on = begun.gone_on;
+    let mut spare = 0;
     let steps = job.steps.len() as u32;
     let mut step = standing.done;
     while step < steps {
         // No line ends within what is committed together.
         let until = next_end(step, steps, rest);
-        let entry = match take_steps(job, step, until, gone_on, room, station) {
+        let entry = match take_next(job, step, until, gone_on, &mut spare, room, station) {
             Ok(entry) => entry,
             Err(finish) => return finish,
         };

@@ -16,7 +16,7 @@ ghost use Rattle.step_engine.specs.LeftBehind.{IsLastPoint, IsLeftBehind};
 ghost use Rattle.step_engine.specs.OneFile.{OnlyTidied};
 ghost use Rattle.script_runner.specs.Together.{OnlyEmptied};
 ghost use Rattle.script_runner.specs.Tidied.{MayBeLast, IsCutOf, TidiedLast, TidiesFor, TidyCosts};
-ghost use Rattle.script_runner.specs.Tidied.{EmptiesBy, EmptiesLast, tidied_to, last_calls};
+ghost use Rattle.script_runner.specs.Tidied.{EmptiesBy, EmptiesLast, may_wait, tidied_to, last_calls};
 
 use crate::given_job::Job;
 use crate::together::empty_dropped;
@@ -28,7 +28,8 @@ use step_engine::{entry_of_kind, kind_of, tidy, tidy_gone_on};
 
 /// Tidies up the steps of the last commit once more, of so many committed steps: the run that committed them may have
 /// been stopped before. No look shows that this was done, as cuts needn't be kept in their order, nor how many steps
-/// that commit had: behind the first of them were drops alone, and with it they were 1,024 at most.
+/// that commit had. There were 1,024 at most. The first of them may have swept, if those behind it were drops alone;
+/// otherwise each was made at once, and of these nothing is left but the diagrams that they drop.
 ///
 /// Where the entry of the first isn't whole nothing is cut of it. A line that needs the entry finds that out.
 pub(crate) fn tidy_last<S: Shelf>(job: &Job, done: u32, shelf: &mut S) -> Result<(), Failed>
@@ -46,10 +47,17 @@ pub(crate) fn tidy_last<S: Shelf>(job: &Job, done: u32, shelf: &mut S) -> Result
     }
     let first = last_commit(job.steps, done);
     tidy_step(job.steps, first, shelf)?;
-    empty_dropped(job.steps, first + 1, done, shelf)
+    empty_dropped(job.steps, may_wait(done), done, shelf)
 }
 
-/// The first step that the last commit may have had, of so many committed steps.
+/// The first step that the last commit may have had, of so many committed steps, whichever way they were made.
+fn may_wait(done: u32) -> u32
+    ensures { result ≡ may_wait done }
+{
+    done.saturating_sub(MOST_WAITING as u32)
+}
+
+/// The first step that the last commit may have had, of so many committed steps, if those behind it were drops alone.
 fn last_commit(steps: &[Planned], done: u32) -> u32
     requires within { (0 < done) × (done ≤ length steps.now) }
     ensures is { MayBeLast steps.now done result }

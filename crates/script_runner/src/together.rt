@@ -161,7 +161,7 @@ fn tidy_up<S: Shelf>(
     }
 }
 
-/// Empties the files of the diagrams that these steps drop, from one of them up to another.
+/// Empties the files of the diagrams that some of these steps drop, from one of them up to another.
 pub(crate) fn empty_dropped<S: Shelf>(
     steps: &[Planned],
     from: u32,
@@ -169,7 +169,6 @@ pub(crate) fn empty_dropped<S: Shelf>(
     shelf: &mut S,
 ) -> Result<(), Failed>
     requires within { (from ≤ until) × (until ≤ length steps.now) }
-    requires drops { AreDrops steps.now from until }
     ensures content { Told S.tells shelf.old shelf.new
         (Ran (OnlyEmptied (IsDropped steps.now from until) (now (S.world shelf.old)))
         (S.world shelf.old) (S.world shelf.new)) }
@@ -181,10 +180,9 @@ pub(crate) fn empty_dropped<S: Shelf>(
     ensures faults { OnlyFolder (S.faults shelf.old) (S.faults shelf.new) result }
 {
     for k in from..until {
-        let Step::Drop { gone } = steps[k as usize].step else {
-            unreachable!();
-        };
-        shelf.cut(node_file(gone), 0)?;
+        if let Step::Drop { gone } = steps[k as usize].step {
+            shelf.cut(node_file(gone), 0)?;
+        }
     }
     Ok(())
 }

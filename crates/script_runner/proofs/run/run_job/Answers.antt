@@ -18,6 +18,7 @@ use Rattle.script_runner.specs.JobOf.{job_in}
 use Rattle.script_runner.specs.Lean.{IsLean}
 use Rattle.script_runner.specs.Text.{done_line}
 use Rattle.script_runner.specs.StepRuns.{SaysLines}
+use Rattle.script_runner.specs.Tidied.{may_wait}
 use Rattle.script_runner.proofs.Standing.{IsStanding, standing_says}
 use Rattle.script_runner.proofs.Tests.{rest_passes}
 use Rattle.script_runner.proofs.LineOrder.{rises_earlier, none_left, shown_in_front, front_passes}
@@ -116,6 +117,7 @@ loop-step-init g c =
           (c.in-Ok.ensures.answer told_mid) in
           lean_begun job c.args.job.now.bytes.now c.in-Ok.begun.standing.done _ _ _ _ says.done (c.in-Ok.ensures.content.did told_mid)
           (c.in-Ok-say.ensures.content.did told_say).elsewhere.folder_is (c.in-Ok-tidy_last.ensures.content.did t);
+      spare_few = omega arith;
       rise = subst (λ (ls : List LineEnd). IsTrue (rise_from c.in-Ok.begun.standing.done ls)) (sym rest) c.count_before-before.ensures.rest;
       shown = subst (λ (ls : List LineEnd). IsTrue (list_all (shows_past (length c.args.job.now.steps.now)) ls)) (sym rest)
           (rest_passes (shows_past (length c.args.job.now.steps.now)) c.args.job.now.lines.now c.count_before-before.result c.args.job.now.are_lines.show_past);
@@ -172,8 +174,11 @@ returns-in_default-tidy_last-clause-stops g c t paid rest_calls is =
     (banner_so_far g.W.Shelf.tells g.W.Shelf.world (λ s told f. g.met.W.Shelf.files_are s told f) job (length c.args.job.now.lines.now) c.args.job.now.bytes.now _ _ _
     (sym (length-without_budget c.args.job.now.bytes.now)) c.in-Ok.ensures.content told_mid (c.in-Ok.ensures.calls told_mid) said.ticks said.folder_is paid rest_calls is)).stops
 
-pub take_steps-requires-clause-ready : goal.take_steps-requires-clause-ready
-take_steps-requires-clause-ready g c =
+pub take_next-requires-clause-spare : goal.take_next-requires-clause-spare
+take_next-requires-clause-spare g c = c.loop-step.invariant.spare_few
+
+pub take_next-requires-clause-ready : goal.take_next-requires-clause-ready
+take_next-requires-clause-ready g c =
     let job : Job = job_in c.args.job.now in
     let plan = plan_in c.args.job.now in
     is_ready g.W.Shelf.tells g.W.Shelf.world (λ s told f. g.met.W.Shelf.files_are s told f) job c.args.job.now.lines.now plan c.loop-step.step c.loop-step.rest.now _ _ c.loop-step.invariant.so_far
@@ -192,17 +197,17 @@ count_before-requires g c = rises_earlier 0 c.loop-step.step c.loop-step.rest.no
 pub say_lines-requires-clause-within : goal.say_lines-requires-clause-within
 say_lines-requires-clause-within g c =
     let within = c.next_end-until.ensures.within in
-    let reached = c.in-Ok-take_steps.ensures.reached in
+    let reached = c.in-Ok-take_next.ensures.reached in
     omega (arith, within, reached)
 
 pub say_lines-requires-clause-stands : goal.say_lines-requires-clause-stands
 say_lines-requires-clause-stands g c =
-    made_stands g.W.Shelf.tells g.W.Shelf.world (job_in c.args.job.now) c.loop-step.step c.next_end-until.result c.in-Ok-take_steps.entry _ _
-    c.in-Ok-take_steps.ensures.content
+    made_stands g.W.Shelf.tells g.W.Shelf.world (job_in c.args.job.now) c.loop-step.step c.next_end-until.result c.in-Ok-take_next.entry _ _
+    c.in-Ok-take_next.ensures.content
 
 pub say_lines-requires-clause-shown : goal.say_lines-requires-clause-shown
 say_lines-requires-clause-shown g c =
-    let k : ℕ = c.in-Ok-take_steps.entry.number in
+    let k : ℕ = c.in-Ok-take_next.entry.number in
     let first : List LineEnd = take c.count_before.result c.loop-step.rest.now in
     subst (λ (ls : List LineEnd). IsTrue (list_all (λ (l : LineEnd). nat_le l.shows k) ls)) (sym c.split_at-in-loop-step.ensures.front)
     (shown_in_front (length c.args.job.now.steps.now) k first
@@ -213,48 +218,48 @@ pub returns-in-Err-say_lines-clause-content : goal.returns-in-Err-say_lines-clau
 returns-in-Err-say_lines-clause-content g c =
     let job : Job = job_in c.args.job.now in
     let plan = plan_in c.args.job.now in
-    let e = c.in-Ok-take_steps.entry in
+    let e = c.in-Ok-take_next.entry in
     let within = c.next_end-until.ensures.within in
     let taken = takes_step g.W.Shelf.tells g.W.Shelf.world (λ s told f. g.met.W.Shelf.files_are s told f) job c.args.job.now.lines.now plan c.loop-step.step c.next_end-until.result c.loop-step.rest.now _ _ _
-    within.0 within.1 c.next_end-until.ensures.none c.loop-step.invariant.so_far e c.in-Ok-take_steps.ensures.content in
+    within.0 within.1 c.next_end-until.ensures.none c.loop-step.invariant.so_far e c.in-Ok-take_next.ensures.content in
     let ending : c.split_at-in-loop-step.result.0.now ≡ take c.count_before.result c.loop-step.rest.now = c.split_at-in-loop-step.ensures.front in
     let shows = below_next e.number (take c.count_before.result c.loop-step.rest.now)
     (shown_in_front (length c.args.job.now.steps.now) e.number (take c.count_before.result c.loop-step.rest.now)
     (front_passes (shows_past (length c.args.job.now.steps.now)) c.loop-step.rest.now c.count_before.result c.loop-step.invariant.shown) c.count_before.ensures.front) in
     stops_lines g.W.Shelf.tells g.W.Shelf.world (λ s told f. g.met.W.Shelf.files_are s told f) job c.args.job.now.lines.now plan c.count_before.result c.loop-step.rest.now e _ _ _ c.count_before.ensures.within c.count_before.ensures.front shows taken c.in-Err-say_lines.finish
-    (subst (λ (ls : List LineEnd). Told g.W.Shelf.tells c.take_steps.new.shelf c.say_lines.new.station
-    (SaysLines c.args.job.now.steps.now (e.number + 1) ls e (Err c.in-Err-say_lines.finish) (g.W.Shelf.world c.take_steps.new.shelf) (g.W.Shelf.world c.say_lines.new.station))) ending c.in-Err-say_lines.ensures.content)
+    (subst (λ (ls : List LineEnd). Told g.W.Shelf.tells c.take_next.new.shelf c.say_lines.new.station
+    (SaysLines c.args.job.now.steps.now (e.number + 1) ls e (Err c.in-Err-say_lines.finish) (g.W.Shelf.world c.take_next.new.shelf) (g.W.Shelf.world c.say_lines.new.station))) ending c.in-Err-say_lines.ensures.content)
 
 pub loop-step-preserved : goal.loop-step-preserved
 loop-step-preserved g c =
     let job : Job = job_in c.args.job.now in
     let plan = plan_in c.args.job.now in
-    let e = c.in-Ok-take_steps.entry in
+    let e = c.in-Ok-take_next.entry in
     let within = c.next_end-until.ensures.within in
     let taken = takes_step g.W.Shelf.tells g.W.Shelf.world (λ s told f. g.met.W.Shelf.files_are s told f) job c.args.job.now.lines.now plan c.loop-step.step c.next_end-until.result c.loop-step.rest.now _ _ _
-    within.0 within.1 c.next_end-until.ensures.none c.loop-step.invariant.so_far e c.in-Ok-take_steps.ensures.content in
+    within.0 within.1 c.next_end-until.ensures.none c.loop-step.invariant.so_far e c.in-Ok-take_next.ensures.content in
     let ending : c.split_at-in-loop-step.result.0.now ≡ take c.count_before.result c.loop-step.rest.now = c.split_at-in-loop-step.ensures.front in
     let shows = below_next e.number (take c.count_before.result c.loop-step.rest.now)
     (shown_in_front (length c.args.job.now.steps.now) e.number (take c.count_before.result c.loop-step.rest.now)
     (front_passes (shows_past (length c.args.job.now.steps.now)) c.loop-step.rest.now c.count_before.result c.loop-step.invariant.shown) c.count_before.ensures.front) in
-    let take_faults = c.in-Ok-take_steps.ensures.causes in
+    let take_faults = c.in-Ok-take_next.ensures.causes in
     let say_faults = c.in-Ok-say_lines.ensures.causes in
     let invariant = c.loop-step.invariant in
     let rest : c.split_at-in-loop-step.result.1.now ≡ drop c.count_before.result c.loop-step.rest.now = c.split_at-in-loop-step.ensures.back in
     record {
       so_far = subst (λ (ls : List LineEnd). Told g.W.Shelf.tells c.args.station.now c.say_lines.new.station (Turn job c.args.job.now.lines.now (e.number + 1) ls (g.W.Shelf.world c.args.station.now) (g.W.Shelf.world c.say_lines.new.station))) (sym rest)
           (said_lines g.W.Shelf.tells g.W.Shelf.world (λ s told f. g.met.W.Shelf.files_are s told f) job c.args.job.now.lines.now plan c.count_before.result c.loop-step.rest.now e _ _ _ c.count_before.ensures.within c.count_before.ensures.front shows taken _
-          (subst (λ (ls : List LineEnd). Told g.W.Shelf.tells c.take_steps.new.shelf c.say_lines.new.station
-          (SaysLines c.args.job.now.steps.now (e.number + 1) ls e (Ok c.in-Ok-say_lines.field-0) (g.W.Shelf.world c.take_steps.new.shelf) (g.W.Shelf.world c.say_lines.new.station))) ending c.in-Ok-say_lines.ensures.content));
+          (subst (λ (ls : List LineEnd). Told g.W.Shelf.tells c.take_next.new.shelf c.say_lines.new.station
+          (SaysLines c.args.job.now.steps.now (e.number + 1) ls e (Ok c.in-Ok-say_lines.field-0) (g.W.Shelf.world c.take_next.new.shelf) (g.W.Shelf.world c.say_lines.new.station))) ending c.in-Ok-say_lines.ensures.content));
       calls = λ t paid counted.
           let told_take = c.in-Ok-say_lines.ensures.content.before t in
-          let told_before = c.in-Ok-take_steps.ensures.content.before told_take in
+          let told_before = c.in-Ok-take_next.ensures.content.before told_take in
           let before = invariant.calls told_before paid counted in
-          let took = c.in-Ok-take_steps.ensures.calls told_take (unpaid (done_at (g.W.Shelf.world c.args.station.now)) c.loop-step.step paid)
+          let took = c.in-Ok-take_next.ensures.calls told_take (unpaid (done_at (g.W.Shelf.world c.args.station.now)) c.loop-step.step paid)
           (is_counted g.W.Shelf.tells g.W.Shelf.world (λ s told f. g.met.W.Shelf.files_are s told f) job c.args.job.now.lines.now plan c.loop-step.step c.loop-step.rest.now c.loop-step.gone_on _ _ paid
           c.loop-step-test.true invariant.so_far told_before (λ sound. invariant.gated told_before sound c.loop-step-test.true) counted) in
           let reached = (invariant.so_far.did told_before).0.reached in
-          let from = c.in-Ok-take_steps.ensures.reached in
+          let from = c.in-Ok-take_next.ensures.reached in
           let paid_all = none_unpaid (done_at (g.W.Shelf.world c.args.station.now)) e.number paid (omega (arith, reached, from)) in
           let said_them = c.in-Ok-say_lines.ensures.calls t in
           let spoken : length c.split_at-in-loop-step.result.0.now ≡ c.count_before.result =
@@ -265,7 +270,7 @@ loop-step-preserved g c =
           omega (arith, before, took, said_them, spoken, left, few, paid_all);
       paid = λ t paid rest_calls is.
           let told_take = c.in-Ok-say_lines.ensures.content.before t in
-          let told_before = c.in-Ok-take_steps.ensures.content.before told_take in
+          let told_before = c.in-Ok-take_next.ensures.content.before told_take in
           let at = (invariant.so_far.did told_before).0 in
           let left_few : length c.loop-step.rest.now ≤ length c.args.job.now.lines.now = rest_few at.place c.args.job.now.lines.now c.loop-step.rest.now at.rest_is in
           let spoken : length c.split_at-in-loop-step.result.0.now ≡ c.count_before.result =
@@ -274,34 +279,35 @@ loop-step-preserved g c =
           ap length rest ∙ length-drop c.count_before.result c.loop-step.rest.now in
           let taken_so = taken_step g.W.Shelf.tells g.W.Shelf.world (λ s told f. g.met.W.Shelf.files_are s told f) job (length c.args.job.now.lines.now) plan.well_formed c.loop-step.step
           (length c.loop-step.rest.now) c.loop-step-test.true _ _ _ (invariant.so_far.before told_before) at.reached at.made.keeps at.made.later
-          (λ sound. (at.sound sound).holds) c.loop-step.gone_on (λ sound. invariant.gated told_before sound c.loop-step-test.true) (c.in-Ok-take_steps.ensures.content.did told_take).run.moments.past paid rest_calls is (invariant.paid told_before paid rest_calls is)
-          (Ok e) (c.in-Ok-take_steps.ensures.stops told_take) e refl c.in-Ok-take_steps.ensures.reached.0 in
+          (λ sound. (at.sound sound).holds) c.loop-step.gone_on (λ sound. invariant.gated told_before sound c.loop-step-test.true) (c.in-Ok-take_next.ensures.content.did told_take).run.moments.past paid rest_calls is _ _ (invariant.paid told_before paid rest_calls is)
+          (Ok e) (c.in-Ok-take_next.ensures.stops told_take) e refl c.in-Ok-take_next.ensures.reached.0 in
           subst (λ n. PaysSoFar job paid (spent_at (length job.bytes) (length c.args.job.now.lines.now) n (done_at (g.W.Shelf.world c.args.station.now)) (e.number + 1) rest_calls)
-          rest_calls (g.W.Shelf.world c.args.station.now) (g.W.Shelf.world c.say_lines.new.station)) (sym left)
+          rest_calls c.take_next.new.spare (g.W.Shelf.world c.args.station.now) (g.W.Shelf.world c.say_lines.new.station)) (sym left)
           (lines_said g.W.Shelf.tells g.W.Shelf.world (λ s told f. g.met.W.Shelf.files_are s told f) job (length c.args.job.now.lines.now) (e.number + 1) (length c.loop-step.rest.now) c.count_before.result
-          (done_at (g.W.Shelf.world c.args.station.now)) _ _ _ (invariant.so_far.before told_before) (c.in-Ok-say_lines.ensures.content.did t).files
+          (done_at (g.W.Shelf.world c.args.station.now)) _ _ _ _ (invariant.so_far.before told_before) (c.in-Ok-say_lines.ensures.content.did t).files
           (let few = c.in-Ok-say_lines.ensures.calls t in omega (arith, few, spoken)) c.count_before.ensures.within left_few paid rest_calls is taken_so);
       gated = λ t sound behind.
-          let told_before = c.in-Ok-take_steps.ensures.content.before (c.in-Ok-say_lines.ensures.content.before t) in
+          let told_before = c.in-Ok-take_next.ensures.content.before (c.in-Ok-say_lines.ensures.content.before t) in
           let reached = (invariant.so_far.did told_before).0.reached in
-          let from = c.in-Ok-take_steps.ensures.reached in
+          let from = c.in-Ok-take_next.ensures.reached in
           none_behind_first job (now (g.W.Shelf.world c.args.station.now)).folder (λ f. g.met.W.Shelf.files_are c.args.station.now (invariant.so_far.before told_before) f) sound
           (e.number + 1) (omega (arith, reached, from)) behind;
       emptied = λ t sound.
           let told_take = c.in-Ok-say_lines.ensures.content.before t in
-          let told_before = c.in-Ok-take_steps.ensures.content.before told_take in
+          let told_before = c.in-Ok-take_next.ensures.content.before told_take in
           emptied_on g.W.Shelf.tells g.W.Shelf.world (λ s told f. g.met.W.Shelf.files_are s told f) job c.args.job.now.lines.now plan
-          (done_at (g.W.Shelf.world c.args.station.now) - 1) c.loop-step.step c.next_end-until.result e _ _ _ within.1 (c.in-Ok-take_steps.ensures.content.did told_take)
+          (may_wait (done_at (g.W.Shelf.world c.args.station.now))) c.loop-step.step c.next_end-until.result e _ _ _ within.1 (c.in-Ok-take_next.ensures.content.did told_take)
           (c.in-Ok-say_lines.ensures.content.did t).files (invariant.emptied told_before sound);
       lean = λ t sound first.
           let told_take = c.in-Ok-say_lines.ensures.content.before t in
-          let told_before = c.in-Ok-take_steps.ensures.content.before told_take in
+          let told_before = c.in-Ok-take_next.ensures.content.before told_take in
           let at = (invariant.so_far.did told_before).0 in
           subst (IsLean job (e.number + 1))
-          (sym (at_end _ _ (Stays (now (g.W.Shelf.world c.take_steps.new.shelf))) (c.in-Ok-say_lines.ensures.content.did t).files))
-          (c.in-Ok-take_steps.ensures.lean told_take (at.sound sound).holds
+          (sym (at_end _ _ (Stays (now (g.W.Shelf.world c.take_next.new.shelf))) (c.in-Ok-say_lines.ensures.content.did t).files))
+          (c.in-Ok-take_next.ensures.lean told_take (at.sound sound).holds
           (gated_now job c.loop-step.gone_on c.loop-step.step (now (g.W.Shelf.world c.args.station.now)).folder _ plan.well_formed c.loop-step-test.true
           at.made.later (invariant.gated told_before sound c.loop-step-test.true)) (invariant.lean told_before sound first));
+      spare_few = c.in-Ok-take_next.ensures.spare;
       rise = subst (λ (ls : List LineEnd). IsTrue (rise_from (e.number + 1) ls)) (sym rest) c.count_before.ensures.rest;
       shown = subst (λ (ls : List LineEnd). IsTrue (list_all (shows_past (length c.args.job.now.steps.now)) ls)) (sym rest)
           (rest_passes (shows_past (length c.args.job.now.steps.now)) c.loop-step.rest.now c.count_before.result invariant.shown);
@@ -379,12 +385,12 @@ returns-in-Err-say_lines-clause-calls g c t paid counted =
     let job : Job = job_in c.args.job.now in
     let plan = plan_in c.args.job.now in
     let told_take = c.in-Err-say_lines.ensures.content.before t in
-    let told_before = c.in-Ok-take_steps.ensures.content.before told_take in
+    let told_before = c.in-Ok-take_next.ensures.content.before told_take in
     let before = c.loop-step.invariant.calls told_before paid counted in
-    let took = c.in-Ok-take_steps.ensures.calls told_take (unpaid (done_at (g.W.Shelf.world c.args.station.now)) c.loop-step.step paid)
+    let took = c.in-Ok-take_next.ensures.calls told_take (unpaid (done_at (g.W.Shelf.world c.args.station.now)) c.loop-step.step paid)
     (is_counted g.W.Shelf.tells g.W.Shelf.world (λ s told f. g.met.W.Shelf.files_are s told f) job c.args.job.now.lines.now plan c.loop-step.step c.loop-step.rest.now c.loop-step.gone_on _ _ paid
     c.loop-step-test.true c.loop-step.invariant.so_far told_before (λ sound. c.loop-step.invariant.gated told_before sound c.loop-step-test.true) counted) in
-    let no_more = calls_before_all job (c.in-Ok-take_steps.entry.number + 1) in
+    let no_more = calls_before_all job (c.in-Ok-take_next.entry.number + 1) in
     let said_them = c.in-Err-say_lines.ensures.calls t in
     let spoken : length c.split_at-in-loop-step.result.0.now ≡ c.count_before.result =
     ap length c.split_at-in-loop-step.ensures.front ∙ length-take-le c.count_before.result c.loop-step.rest.now c.count_before.ensures.within in
@@ -438,27 +444,27 @@ returns-in-Err-clause-stops g c t paid rest_calls is =
     let at = (c.loop-step.invariant.so_far.did told_before).0 in
     stopped_step g.W.Shelf.tells g.W.Shelf.world (λ s told f. g.met.W.Shelf.files_are s told f) job (length c.args.job.now.lines.now) plan.well_formed c.loop-step.step
     (length c.loop-step.rest.now) c.loop-step-test.true _ _ _ (c.loop-step.invariant.so_far.before told_before) at.reached at.made.keeps at.made.later
-    (λ sound. (at.sound sound).holds) c.loop-step.gone_on (λ sound. c.loop-step.invariant.gated told_before sound c.loop-step-test.true) (c.in-Err.ensures.content.did t).run.moments.past paid rest_calls is (c.loop-step.invariant.paid told_before paid rest_calls is)
+    (λ sound. (at.sound sound).holds) c.loop-step.gone_on (λ sound. c.loop-step.invariant.gated told_before sound c.loop-step-test.true) (c.in-Err.ensures.content.did t).run.moments.past paid rest_calls is _ _ (c.loop-step.invariant.paid told_before paid rest_calls is)
     (Err c.in-Err.finish) (c.in-Err.ensures.stops t)
 
 pub returns-in-Err-say_lines-clause-stops : goal.returns-in-Err-say_lines-clause-stops
 returns-in-Err-say_lines-clause-stops g c t paid rest_calls is =
     let job : Job = job_in c.args.job.now in
     let plan = plan_in c.args.job.now in
-    let e = c.in-Ok-take_steps.entry in
+    let e = c.in-Ok-take_next.entry in
     let invariant = c.loop-step.invariant in
     let told_take = c.in-Err-say_lines.ensures.content.before t in
-    let told_before = c.in-Ok-take_steps.ensures.content.before told_take in
+    let told_before = c.in-Ok-take_next.ensures.content.before told_take in
     let at = (invariant.so_far.did told_before).0 in
     let left_few : length c.loop-step.rest.now ≤ length c.args.job.now.lines.now = rest_few at.place c.args.job.now.lines.now c.loop-step.rest.now at.rest_is in
     let spoken : length c.split_at-in-loop-step.result.0.now ≡ c.count_before.result =
     ap length c.split_at-in-loop-step.ensures.front ∙ length-take-le c.count_before.result c.loop-step.rest.now c.count_before.ensures.within in
     let taken_so = taken_step g.W.Shelf.tells g.W.Shelf.world (λ s told f. g.met.W.Shelf.files_are s told f) job (length c.args.job.now.lines.now) plan.well_formed c.loop-step.step
     (length c.loop-step.rest.now) c.loop-step-test.true _ _ _ (invariant.so_far.before told_before) at.reached at.made.keeps at.made.later
-    (λ sound. (at.sound sound).holds) c.loop-step.gone_on (λ sound. invariant.gated told_before sound c.loop-step-test.true) (c.in-Ok-take_steps.ensures.content.did told_take).run.moments.past paid rest_calls is (invariant.paid told_before paid rest_calls is)
-    (Ok e) (c.in-Ok-take_steps.ensures.stops told_take) e refl c.in-Ok-take_steps.ensures.reached.0 in
+    (λ sound. (at.sound sound).holds) c.loop-step.gone_on (λ sound. invariant.gated told_before sound c.loop-step-test.true) (c.in-Ok-take_next.ensures.content.did told_take).run.moments.past paid rest_calls is _ _ (invariant.paid told_before paid rest_calls is)
+    (Ok e) (c.in-Ok-take_next.ensures.stops told_take) e refl c.in-Ok-take_next.ensures.reached.0 in
     (lines_said g.W.Shelf.tells g.W.Shelf.world (λ s told f. g.met.W.Shelf.files_are s told f) job (length c.args.job.now.lines.now) (e.number + 1) (length c.loop-step.rest.now) c.count_before.result
-    (done_at (g.W.Shelf.world c.args.station.now)) _ _ _ (invariant.so_far.before told_before) (c.in-Err-say_lines.ensures.content.did t).files
+    (done_at (g.W.Shelf.world c.args.station.now)) _ _ _ _ (invariant.so_far.before told_before) (c.in-Err-say_lines.ensures.content.did t).files
     (let few = c.in-Err-say_lines.ensures.calls t in omega (arith, few, spoken)) c.count_before.ensures.within left_few paid rest_calls is taken_so).stops
 
 pub returns-in_default-say-clause-stops : goal.returns-in_default-say-clause-stops
@@ -466,7 +472,7 @@ returns-in_default-say-clause-stops g c t paid rest_calls is =
     let said = (c.in_default-say.ensures.content.did t).elsewhere in
     let told_before = c.in_default-say.ensures.content.before t in
     ends_so g.W.Shelf.tells g.W.Shelf.world (λ s told f. g.met.W.Shelf.files_are s told f) (job_in c.args.job.now) (length c.args.job.now.lines.now) c.loop-step.step
-    (length c.loop-step.rest.now) (done_at (g.W.Shelf.world c.args.station.now)) _ _ _ (c.loop-step.invariant.so_far.before told_before) said.ticks said.folder_is
+    (length c.loop-step.rest.now) (done_at (g.W.Shelf.world c.args.station.now)) _ _ _ _ (c.loop-step.invariant.so_far.before told_before) said.ticks said.folder_is
     paid rest_calls is (c.loop-step.invariant.paid told_before paid rest_calls is)
 
 pub returns-clause-stops : goal.returns-clause-stops
@@ -474,5 +480,5 @@ returns-clause-stops g c t paid rest_calls is =
     let said = (c.in-Ok-say-2.ensures.content.did t).elsewhere in
     let told_before = c.in-Ok-say-2.ensures.content.before t in
     ends_so g.W.Shelf.tells g.W.Shelf.world (λ s told f. g.met.W.Shelf.files_are s told f) (job_in c.args.job.now) (length c.args.job.now.lines.now) c.loop-step.step
-    (length c.loop-step.rest.now) (done_at (g.W.Shelf.world c.args.station.now)) _ _ _ (c.loop-step.invariant.so_far.before told_before) said.ticks said.folder_is
+    (length c.loop-step.rest.now) (done_at (g.W.Shelf.world c.args.station.now)) _ _ _ _ (c.loop-step.invariant.so_far.before told_before) said.ticks said.folder_is
     paid rest_calls is (c.loop-step.invariant.paid told_before paid rest_calls is)

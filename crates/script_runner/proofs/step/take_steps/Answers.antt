@@ -1,4 +1,4 @@
-use Rattle.std.proofs.Common.{◌≡◌, ◌<◌, ◌≤◌, ◌+◌, ℕ, get_or, length, refl, sym, subst, arith}
+use Rattle.std.proofs.Common.{◌<◌, ◌≤◌, ◌+◌, ◌-◌, ◌*◌, get_or, length, refl, sym, subst, arith}
 use Rattle.std.specs.Prelude.{Ok, Err}
 use Rattle.step_work.specs.Plans.{no_step}
 use Rattle.shelf_model.specs.World.{now}
@@ -65,16 +65,18 @@ returns-in-Err-clause-calls g c tells_s rest counted =
     let here : c.args.number < length c.args.job.now.steps.now = omega (arith, c.requires.within.0, c.requires.within.1) in
     let may : MayRun c.args.job.now.n c.args.job.now.text.now c.args.number (get_or c.args.job.now.steps.now c.args.number no_step) =
     may_run c.args.job.now.n c.args.job.now.text.now c.args.job.now.steps.now c.args.number no_step here c.args.job.now.well_formed in
-    stopped_calls g.S.Shelf.tells g.S.Shelf.world g.S.Shelf.faults (λ s told f. g.met.S.Shelf.files_are s told f) (job_in c.args.job.now) c.args.number
-    c.args.job.now.well_formed here (get_or c.args.job.now.steps.now c.args.number no_step) refl may.operands_are c.args.until c.requires.within.0 c.requires.within.1 _ _ (Err c.in-Err.fault) c.in-Err.ensures.makes tells_s c.args.gone_on rest counted
+    let few = stopped_calls g.S.Shelf.tells g.S.Shelf.world g.S.Shelf.faults (λ s told f. g.met.S.Shelf.files_are s told f) (job_in c.args.job.now) c.args.number
+    c.args.job.now.well_formed here (get_or c.args.job.now.steps.now c.args.number no_step) refl may.operands_are c.args.until c.requires.within.0 c.requires.within.1 _ _ (Err c.in-Err.fault) c.in-Err.ensures.makes tells_s c.args.gone_on rest counted in
+    omega (arith, few)
 
 pub returns-in_default-clause-calls : goal.returns-in_default-clause-calls
 returns-in_default-clause-calls g c tells_t rest counted =
     let here : c.args.number < length c.args.job.now.steps.now = omega (arith, c.requires.within.0, c.requires.within.1) in
     let may : MayRun c.args.job.now.n c.args.job.now.text.now c.args.number (get_or c.args.job.now.steps.now c.args.number no_step) =
     may_run c.args.job.now.n c.args.job.now.text.now c.args.job.now.steps.now c.args.number no_step here c.args.job.now.well_formed in
-    committing_calls g.S.Shelf.tells g.S.Shelf.world g.S.Shelf.faults (λ s told f. g.met.S.Shelf.files_are s told f) (job_in c.args.job.now) c.args.number
-    c.args.job.now.well_formed here (get_or c.args.job.now.steps.now c.args.number no_step) refl may.operands_are c.drops_end-end.result c.args.until c.drops_end-end.ensures.behind.0 c.drops_end-end.ensures.behind.1 c.requires.within.1 c.in-Ok.entry _ _ c.in-Ok.ensures.makes (c.in_default.ensures.content.before tells_t) c.args.gone_on rest counted _ (c.in_default.ensures.calls tells_t)
+    let few = committing_calls g.S.Shelf.tells g.S.Shelf.world g.S.Shelf.faults (λ s told f. g.met.S.Shelf.files_are s told f) (job_in c.args.job.now) c.args.number
+    c.args.job.now.well_formed here (get_or c.args.job.now.steps.now c.args.number no_step) refl may.operands_are c.drops_end-end.result c.args.until c.drops_end-end.ensures.behind.0 c.drops_end-end.ensures.behind.1 c.requires.within.1 c.in-Ok.entry _ _ c.in-Ok.ensures.makes (c.in_default.ensures.content.before tells_t) c.args.gone_on rest counted _ (c.in_default.ensures.calls tells_t) in
+    omega (arith, few)
 
 pub returns-in_default-tidy_together-clause-calls : goal.returns-in_default-tidy_together-clause-calls
 returns-in_default-tidy_together-clause-calls g c tells_u rest counted =
@@ -82,9 +84,10 @@ returns-in_default-tidy_together-clause-calls g c tells_u rest counted =
     let may : MayRun c.args.job.now.n c.args.job.now.text.now c.args.number (get_or c.args.job.now.steps.now c.args.number no_step) =
     may_run c.args.job.now.n c.args.job.now.text.now c.args.job.now.steps.now c.args.number no_step here c.args.job.now.well_formed in
     let tells_t = c.in_default-tidy_together.ensures.content.before tells_u in
-    together_calls g.S.Shelf.tells g.S.Shelf.world g.S.Shelf.faults (λ s told f. g.met.S.Shelf.files_are s told f) (job_in c.args.job.now) c.args.number
+    let few = together_calls g.S.Shelf.tells g.S.Shelf.world g.S.Shelf.faults (λ s told f. g.met.S.Shelf.files_are s told f) (job_in c.args.job.now) c.args.number
     c.args.job.now.well_formed here (get_or c.args.job.now.steps.now c.args.number no_step) refl may.operands_are c.drops_end-end.result c.args.until c.drops_end-end.ensures.behind.0 c.drops_end-end.ensures.behind.1 c.requires.within.1 c.in-Ok.entry _ _ c.in-Ok.ensures.makes (c.in-Ok-commit_together.ensures.content.before tells_t) c.args.gone_on rest counted _ _
-    (c.in-Ok-commit_together.ensures.calls tells_t) (c.in_default-tidy_together.ensures.calls tells_u)
+    (c.in-Ok-commit_together.ensures.calls tells_t) (c.in_default-tidy_together.ensures.calls tells_u) in
+    omega (arith, few)
 
 pub returns-clause-calls : goal.returns-clause-calls
 returns-clause-calls g c tells_u rest counted =
@@ -92,11 +95,13 @@ returns-clause-calls g c tells_u rest counted =
     let may : MayRun c.args.job.now.n c.args.job.now.text.now c.args.number (get_or c.args.job.now.steps.now c.args.number no_step) =
     may_run c.args.job.now.n c.args.job.now.text.now c.args.job.now.steps.now c.args.number no_step here c.args.job.now.well_formed in
     let tells_t = c.in-Ok-tidy_together.ensures.content.before tells_u in
-    subst (λ n. (g.S.Shelf.world c.tidy_together.new.shelf).clock + calls_before (job_in c.args.job.now) c.args.number
-    ≤ (g.S.Shelf.world c.args.shelf.now).clock + (calls_before (job_in c.args.job.now) n + rest)) (sym c.in-Ok-commit_together.ensures.last.0)
-    (together_calls g.S.Shelf.tells g.S.Shelf.world g.S.Shelf.faults (λ s told f. g.met.S.Shelf.files_are s told f) (job_in c.args.job.now) c.args.number
+    let last_is = c.in-Ok-commit_together.ensures.last.0 in
+    let few = together_calls g.S.Shelf.tells g.S.Shelf.world g.S.Shelf.faults (λ s told f. g.met.S.Shelf.files_are s told f) (job_in c.args.job.now) c.args.number
     c.args.job.now.well_formed here (get_or c.args.job.now.steps.now c.args.number no_step) refl may.operands_are c.drops_end-end.result c.drops_end-end.result c.drops_end-end.ensures.behind.0 (omega arith) (omega (arith, c.drops_end-end.ensures.behind.1, c.requires.within.1)) c.in-Ok.entry _ _ c.in-Ok.ensures.makes (c.in-Ok-commit_together.ensures.content.before tells_t) c.args.gone_on rest counted _ _
-    (c.in-Ok-commit_together.ensures.calls tells_t) (c.in-Ok-tidy_together.ensures.calls tells_u))
+    (c.in-Ok-commit_together.ensures.calls tells_t) (c.in-Ok-tidy_together.ensures.calls tells_u) in
+    subst (λ n. (g.S.Shelf.world c.tidy_together.new.shelf).clock + 5 * (c.in-Ok-commit_together.last.number - c.args.number)
+    + calls_before (job_in c.args.job.now) c.args.number
+    ≤ (g.S.Shelf.world c.args.shelf.now).clock + (calls_before (job_in c.args.job.now) n + rest)) (sym last_is) (omega (arith, few, last_is))
 
 -- what a stop costs, wherever it stops
 pub returns-in-Err-clause-stops : goal.returns-in-Err-clause-stops
@@ -139,4 +144,4 @@ returns-clause-stops g c tells_u paid rest is =
     c.args.job.now.well_formed here (get_or c.args.job.now.steps.now c.args.number no_step) refl may.operands_are _ _ (Ok c.in-Ok.entry) c.in-Ok.ensures.makes (c.in-Ok-commit_together.ensures.content.before tells_t) c.args.gone_on paid rest is
     c.in-Ok.entry refl c.drops_end-end.result c.drops_end-end.ensures.behind.0 c.drops_end-end.ensures.few
     (omega (arith, c.drops_end-end.ensures.behind.1, c.requires.within.1)) c.drops_end-end.ensures.drops _ _ (c.in-Ok-commit_together.ensures.content.did tells_t) (c.in-Ok-commit_together.ensures.calls tells_t) (c.in-Ok-commit_together.ensures.ok tells_t)
-    (c.in-Ok-tidy_together.ensures.content.did tells_u) (c.in-Ok-tidy_together.ensures.calls tells_u) c.in-Ok-commit_together.last
+    (c.in-Ok-tidy_together.ensures.content.did tells_u) (c.in-Ok-tidy_together.ensures.calls tells_u) c.in-Ok-commit_together.last c.in-Ok-commit_together.ensures.last.0
