@@ -4,6 +4,8 @@
 #[cfg(test)]
 mod driving;
 #[cfg(test)]
+mod meant;
+#[cfg(test)]
 mod refusals;
 #[cfg(test)]
 mod runs;

@@ -2,172 +2,232 @@
 ghost use Rattle.std.specs.Prelude.{◌≤◌, length};
 ghost use Rattle.top_down_cases.specs.declared.sweeping.TheConstants.{LEAST_ROOM};
 
-use crate::sweeping::{EMPTY, LEAST_ROOM, ONE, THREE, reduced};
+use crate::meant::Meant;
+use crate::sweeping::{EMPTY, LEAST_ROOM, ONE, THREE};
 use bool_tables::Quant;
-use case_tables::{FIRST, Random, SECOND, bench_of, operator, put_bytes};
+use case_tables::{FIRST, Random, SECOND, bench_of, put_bytes};
 use rec_words::Rec;
 use shelf_memory::Bench;
-use shelf_model::SortFault;
+use shelf_model::{FileNo, SortFault};
 use std::alloc::Global;
 use std::test::Fail;
-use top_down_sweep::{Choice, Product, Quantified, Restricted};
 
 const VARIABLES: u32 = 4;
 
-/// How many small cases there are.
-const CASES: u32 = 5;
+/// A small case: an operation, and the files of its operands.
+struct Small {
+    name: &'static str,
+    meant: Meant,
+    operands: [FileNo; 3],
+}
 
-/// A bench with the files of three random tables.
-fn random_bench(alloc: Global, seed: u64) -> Result<Bench, Fail> {
-    let mut random = Random::new(seed);
+const CASES: &[Small] = &[
+    Small {
+        name: "an exclusive or",
+        meant: Meant::Operator(0b0110),
+        operands: THREE,
+    },
+    Small {
+        name: "a conjunction of one file",
+        meant: Meant::Operator(0b1000),
+        operands: ONE,
+    },
+    Small {
+        name: "a choice",
+        meant: Meant::Choice,
+        operands: THREE,
+    },
+    Small {
+        name: "a quantifier",
+        meant: Meant::Quantifier(Quant::Exists, 1),
+        operands: ONE,
+    },
+    Small {
+        name: "a restriction",
+        meant: Meant::Restriction(2, true),
+        operands: ONE,
+    },
+];
+
+impl Small {
+    // What it leaves.
+    fn run(&self, room: &mut [Rec], bench: &mut Bench) -> Result<Option<u64>, SortFault>
+        requires { LEAST_ROOM ≤ length room.old }
+    {
+        self.meant.reduced(VARIABLES, self.operands, room, bench)
+    }
+}
+
+// A folder with the files of three random tables.
+fn random_bench(alloc: Global) -> Result<Bench, Fail> {
+    let mut random = Random::new(1);
     let first = random.table(alloc, VARIABLES, usize::MAX)?;
     let second = random.table(alloc, VARIABLES, usize::MAX)?;
     let third = random.table(alloc, VARIABLES, usize::MAX)?;
-    bench_of(
-        alloc,
-        VARIABLES,
-        [first.as_slice(), second.as_slice(), third.as_slice()],
-    )
+    let tables = [first.as_slice(), second.as_slice(), third.as_slice()];
+    bench_of(alloc, VARIABLES, tables)
 }
 
-/// What one of the small cases leaves.
-fn run_case(case: u32, room: &mut [Rec], bench: &mut Bench) -> Result<Option<u64>, SortFault>
+// How a case ended of which a call was to fail.
+#[derive(Clone, Copy)]
+enum End {
+    // With that call.
+    AtTheCall,
+    // As an undisturbed one, for the call is never made.
+    Undisturbed,
+    // Otherwise.
+    Wrong,
+}
+
+// What an end is, where an undisturbed case leaves so many nodes; and whether the call was never made.
+fn end_of(left: Result<Option<u64>, SortFault>, count: Option<u64>, never: bool) -> End {
+    match left {
+        Ok(found) if found.is_some() && found == count && never => End::Undisturbed,
+        Err(SortFault::Shelf) => End::AtTheCall,
+        _ => End::Wrong,
+    }
+}
+
+// How a case ends of which a call fails, where an undisturbed one leaves so many nodes.
+fn end_with(
+    alloc: Global,
+    small: &Small,
+    call: u64,
+    count: Option<u64>,
+    room: &mut [Rec],
+) -> Result<End, Fail>
     requires { LEAST_ROOM ≤ length room.old }
 {
-    match case {
-        0 => reduced(
-            Product {
-                op: operator(0b0110),
-            },
-            VARIABLES,
-            THREE,
-            room,
-            bench,
-        ),
-        1 => reduced(
-            Product {
-                op: operator(0b1000),
-            },
-            VARIABLES,
-            ONE,
-            room,
-            bench,
-        ),
-        2 => reduced(Choice, VARIABLES, THREE, room, bench),
-        3 => {
-            let operation = Quantified {
-                kind: Quant::Exists,
-                variable: 1,
-            };
-            reduced(operation, VARIABLES, ONE, room, bench)
-        }
-        _ => {
-            let operation = Restricted {
-                variable: 2,
-                value: true,
-            };
-            reduced(operation, VARIABLES, ONE, room, bench)
+    let mut bench = random_bench(alloc)?;
+    let last = bench.clock().saturating_add(call);
+    bench.fail_at(last)?;
+    let left = small.run(room, &mut bench);
+    Ok(end_of(left, count, bench.clock() <= last))
+}
+
+// Whether each of the first calls that fails ends a case, and later ones are never made.
+fn each_call_ends(alloc: Global, small: &Small, room: &mut [Rec]) -> Result<bool, Fail>
+    requires { LEAST_ROOM ≤ length room.old }
+{
+    let mut undisturbed = random_bench(alloc)?;
+    let count = small.run(room, &mut undisturbed).ok().flatten();
+    let mut ended = false;
+    for call in 0..60 {
+        match end_with(alloc, small, call, count, room)? {
+            End::AtTheCall => {}
+            End::Undisturbed => ended = true,
+            End::Wrong => return Ok(false),
         }
     }
+    Ok(ended)
 }
 
-// A call that fails ends the case, or it is never made and the case ends as it does undisturbed.
-fn ends_where_a_call_fails(rt: HostRuntime, case: u32, call: u64) -> Result<Option<bool>, Fail> {
-    let mut room = vec![in rt.alloc(); EMPTY; LEAST_ROOM]?;
-    let mut undisturbed = random_bench(rt.alloc(), 1)?;
-    let count = run_case(case, room.as_mut_slice(), &mut undisturbed)
-        .ok()
-        .flatten();
-    let mut bench = random_bench(rt.alloc(), 1)?;
-    bench.fail_at(bench.clock().saturating_add(call))?;
-    let before = bench.clock();
-    match run_case(case, room.as_mut_slice(), &mut bench) {
-        Ok(found) => {
-            let few = bench.clock() <= before.saturating_add(call);
-            Ok(Some(found.is_some() && found == count && few))
-        }
-        Err(SortFault::Shelf) => Ok(None),
-        Err(_) => Ok(Some(false)),
-    }
-}
-
-// Each of the first calls that fails ends each case, and later ones are never made.
-fn each_call_ends_each_case(rt: HostRuntime) -> Result<bool, Fail> {
-    for case in 0..CASES {
-        let mut ended = false;
-        for call in 0..60 {
-            match ends_where_a_call_fails(rt, case, call)? {
-                Some(false) => return Ok(false),
-                Some(true) => ended = true,
-                None => {}
-            }
-        }
-        if !ended {
-            return Ok(false);
-        }
-    }
-    Ok(true)
-}
-
-#[test]
-fn each_failing_call_ends_a_sweep(rt: HostRuntime) -> Result<(), Fail> {
-    let ends = each_call_ends_each_case(rt)?;
-    assert!(rt; ends);
-    Ok(())
-}
-
-// A case over a file of these bytes ends, or says that an operand's file is damaged.
+// Whether a case over a file of these bytes ends, or says that an operand's file is damaged.
 fn ends_or_tells_damage(
-    rt: HostRuntime,
-    case: u32,
+    small: &Small,
     bytes: &[u8],
+    room: &mut [Rec],
     bench: &mut Bench,
-) -> Result<bool, Fail> {
-    let mut room = vec![in rt.alloc(); EMPTY; LEAST_ROOM]?;
+) -> Result<bool, Fail>
+    requires { LEAST_ROOM ≤ length room.old }
+{
     put_bytes(bench, FIRST, bytes)?;
-    match run_case(case, room.as_mut_slice(), bench) {
+    match small.run(room, bench) {
         Ok(count) => Ok(count.is_some()),
         Err(SortFault::Damaged { file, .. }) => Ok(file == FIRST || file == SECOND),
         Err(_) => Ok(false),
     }
 }
 
-// So does each case over a file that ends early, or that has another byte somewhere.
-fn ends_with_changed_bytes(rt: HostRuntime, case: u32) -> Result<bool, Fail> {
-    let mut bench = random_bench(rt.alloc(), 1)?;
-    let mut bytes = Vec::new(rt.alloc());
-    bytes.extend_from_slice(bench.file(FIRST))?;
+// Changes bits of the byte at a place.
+fn flip(bytes: &mut [u8], at: usize, bits: u8) {
+    if let Some(byte) = bytes.get_mut(at) {
+        *byte ^= bits;
+    }
+}
+
+// The same over a file that has another byte at a place. The bytes are as before then.
+fn ends_with_another_byte(
+    small: &Small,
+    bytes: &mut [u8],
+    at: usize,
+    room: &mut [Rec],
+    bench: &mut Bench,
+) -> Result<bool, Fail>
+    requires { LEAST_ROOM ≤ length room.old }
+{
+    let mut ends = true;
+    for bits in [1u8, 0x80, 0xff] {
+        flip(bytes, at, bits);
+        ends = ends && ends_or_tells_damage(small, bytes, room, bench)?;
+        flip(bytes, at, bits);
+    }
+    Ok(ends)
+}
+
+// The same over each file that is a front of these bytes, or that has another byte somewhere.
+fn ends_with_each_change(
+    small: &Small,
+    bytes: &mut [u8],
+    room: &mut [Rec],
+    bench: &mut Bench,
+) -> Result<bool, Fail>
+    requires { LEAST_ROOM ≤ length room.old }
+{
     for at in 0..bytes.len() {
-        let (front, _back) = bytes.as_slice().split_at(at);
-        if !ends_or_tells_damage(rt, case, front, &mut bench)? {
+        let (front, _back) = bytes.split_at(at);
+        let early = ends_or_tells_damage(small, front, room, bench)?;
+        if !early || !ends_with_another_byte(small, bytes, at, room, bench)? {
             return Ok(false);
-        }
-        for change in [1, 0x80, 0xff] {
-            let mut changed = Vec::new(rt.alloc());
-            changed.extend_from_slice(bytes.as_slice())?;
-            if let Some(byte) = changed.as_mut_slice().get_mut(at) {
-                *byte ^= change;
-            }
-            if !ends_or_tells_damage(rt, case, changed.as_slice(), &mut bench)? {
-                return Ok(false);
-            }
         }
     }
     Ok(true)
 }
 
-fn each_case_ends_with_changed_bytes(rt: HostRuntime) -> Result<bool, Fail> {
-    for case in 0..CASES {
-        if !ends_with_changed_bytes(rt, case)? {
-            return Ok(false);
+// The same over each file that ends early, or that has another byte somewhere.
+fn ends_with_changed_bytes(alloc: Global, small: &Small, room: &mut [Rec]) -> Result<bool, Fail>
+    requires { LEAST_ROOM ≤ length room.old }
+{
+    let mut bench = random_bench(alloc)?;
+    let mut bytes = Vec::from_slice(alloc, bench.file(FIRST))?;
+    ends_with_each_change(small, bytes.as_mut_slice(), room, &mut bench)
+}
+
+/// How cases are disturbed.
+#[derive(Clone, Copy)]
+enum Disturbed {
+    /// Calls fail.
+    Calls,
+    /// The file of the first operand is another one.
+    Bytes,
+}
+
+// The first case that doesn't end as it has to.
+fn first_wrong(alloc: Global, disturbed: Disturbed) -> Result<Option<&'static str>, Fail> {
+    let mut records = vec![in alloc; EMPTY; LEAST_ROOM]?;
+    let room = records.as_mut_slice();
+    for small in CASES {
+        let ends = match disturbed {
+            Disturbed::Calls => each_call_ends(alloc, small, room),
+            Disturbed::Bytes => ends_with_changed_bytes(alloc, small, room),
+        };
+        if !ends? {
+            return Ok(Some(small.name));
         }
     }
-    Ok(true)
+    Ok(None)
+}
+
+#[test]
+fn each_failing_call_ends_a_sweep(rt: HostRuntime) -> Result<(), Fail> {
+    let wrong = first_wrong(rt.alloc(), Disturbed::Calls)?;
+    assert!(rt; wrong.is_none(), "{wrong:?}");
+    Ok(())
 }
 
 #[test]
 fn a_changed_operand_is_damaged_or_ends(rt: HostRuntime) -> Result<(), Fail> {
-    let ends = each_case_ends_with_changed_bytes(rt)?;
-    assert!(rt; ends);
+    let wrong = first_wrong(rt.alloc(), Disturbed::Bytes)?;
+    assert!(rt; wrong.is_none(), "{wrong:?}");
     Ok(())
 }

@@ -1,8 +1,6 @@
-//! Operations on tables, by sweeps over the tables' canonical files, and by the values at each place.
-ghost use Rattle.std.specs.Prelude.{◌≡◌, ◌≤◌, IfOk, IfSome, length};
-ghost use Rattle.run_tiers.specs.Parts.{Took};
-ghost use Rattle.top_down_sweep.specs.Sweeps.{HasMade};
-ghost use Rattle.top_down_cases.specs.declared.sweeping.TheConstants.{INNER, ENDS, LEAST_ROOM, PARTS};
+//! Sweeps over the canonical files of tables, whose arcs are reduced.
+ghost use Rattle.std.specs.Prelude.{◌≤◌, length};
+ghost use Rattle.top_down_cases.specs.declared.sweeping.TheConstants.{LEAST_ROOM};
 
 use arc_file::Unreduced;
 use case_tables::{FIRST, SECOND, THIRD, canon_of};
@@ -10,10 +8,10 @@ use rec_words::Rec;
 use reduce_sweep::ReduceSweep;
 use run_merge::Parts;
 use shelf_memory::Bench;
-use shelf_model::{FileNo, Shelf, SortFault};
+use shelf_model::{FileNo, SortFault};
 use std::alloc::Global;
 use std::test::Fail;
-use sweep_core::{Turn, drive};
+use sweep_core::{Made, Turn, drive, run_some};
 use top_down_sweep::{Files, Operation, TopDownSweep};
 
 const INNER: FileNo = FileNo { step: 3, part: 3 };
@@ -30,23 +28,11 @@ const MOST_TURNS: u64 = 1_000_000;
 
 pub(crate) const EMPTY: Rec = Rec { w: [0; 8] };
 
-/// The files of an operation on three diagrams.
-pub(crate) const THREE: Files = Files {
-    first: FIRST,
-    second: SECOND,
-    third: THIRD,
-    inner: INNER,
-    ends: ENDS,
-};
+/// The operands of an operation on three diagrams.
+pub(crate) const THREE: [FileNo; 3] = [FIRST, SECOND, THIRD];
 
 /// Those of an operation on one.
-pub(crate) const ONE: Files = Files {
-    first: FIRST,
-    second: FIRST,
-    third: FIRST,
-    inner: INNER,
-    ends: ENDS,
-};
+pub(crate) const ONE: [FileNo; 3] = [FIRST, FIRST, FIRST];
 
 /// The part numbers that are left for a sweep.
 pub(crate) const PARTS: Parts = Parts { step: 3, next: 5 };
@@ -59,85 +45,89 @@ pub(crate) struct Arcs {
     pub(crate) parts: Parts,
 }
 
-/// Drives a sweep to its end. None is answered where it takes too many turns.
-pub(crate) fn swept<O: Operation, S: Shelf>(
+// What a sweep has made behind its turns, where they ended it. One that has ended ends with each further turn.
+fn arcs_of(first: Made, rest: Made, made: Option<Unreduced>, parts: Parts) -> Option<Arcs> {
+    let more = if first.turn == Turn::More {
+        rest.turns
+    } else {
+        0
+    };
+    match made {
+        Some(made) if rest.turn == Turn::Ended => Some(Arcs {
+            made,
+            turns: first.turns.saturating_add(more),
+            parts,
+        }),
+        _ => None,
+    }
+}
+
+/// Drives a sweep to its end, with a pause behind its first turns, so many. None is answered where it takes too many
+/// turns.
+pub(crate) fn swept<O: Operation>(
     operation: O,
     n: u32,
-    files: Files,
+    operands: [FileNo; 3],
+    pause: u64,
     room: &mut [Rec],
-    shelf: &mut S,
+    bench: &mut Bench,
 ) -> Result<Option<Arcs>, SortFault>
     requires enough { LEAST_ROOM ≤ length room.old }
-    requires files { (files.inner ≡ INNER) × (files.ends ≡ ENDS) }
-    ensures made { IfOk result (λ found. IfSome found (λ x. HasMade INNER ENDS x.made)) }
-    ensures parts { IfOk result (λ found. IfSome found (λ x. Took PARTS x.parts)) }
 {
-    let mut sweep = TopDownSweep::start(operation, n, files, PARTS, room, shelf)?;
-    for turns in 1..MOST_TURNS {
-        if sweep.turn(shelf)? == Turn::Ended {
-            let parts = sweep.parts();
-            return match sweep.made() {
-                Some(made) => Ok(Some(Arcs { made, turns, parts })),
-                None => Ok(None),
-            };
-        }
-    }
-    Ok(None)
+    let [first, second, third] = operands;
+    let files = Files {
+        first,
+        second,
+        third,
+        inner: INNER,
+        ends: ENDS,
+    };
+    let mut sweep = TopDownSweep::start(operation, n, files, PARTS, room, bench)?;
+    let first = run_some(&mut sweep, pause, bench)?;
+    let rest = run_some(&mut sweep, MOST_TURNS, bench)?;
+    Ok(arcs_of(first, rest, sweep.made(), sweep.parts()))
 }
 
-/// How many nodes are left once a sweep's arcs are reduced. None is answered where that takes too many turns.
-pub(crate) fn reduced<O: Operation, S: Shelf>(
-    operation: O,
+/// How many nodes are left of the arcs that a sweep made. None is answered where they or the parts aren't those of the
+/// step, or where that takes too many turns.
+pub(crate) fn reduce(
     n: u32,
-    files: Files,
+    arcs: &Arcs,
     room: &mut [Rec],
-    shelf: &mut S,
+    bench: &mut Bench,
 ) -> Result<Option<u64>, SortFault>
     requires levels { n ≤ 65535 }
     requires enough { LEAST_ROOM ≤ length room.old }
-    requires files { (files.inner ≡ INNER) × (files.ends ≡ ENDS) }
 {
-    match swept(operation, n, files, room, shelf)? {
-        Some(swept) => reduce(n, &swept, room, shelf),
-        None => Ok(None),
+    let (made, parts) = (arcs.made, arcs.parts);
+    if made.inner != INNER || made.ends != ENDS || parts.step != PARTS.step {
+        return Ok(None);
     }
-}
-
-/// How many nodes are left of the arcs that a sweep made. None is answered where that takes too many turns.
-pub(crate) fn reduce<S: Shelf>(
-    n: u32,
-    swept: &Arcs,
-    room: &mut [Rec],
-    shelf: &mut S,
-) -> Result<Option<u64>, SortFault>
-    requires levels { n ≤ 65535 }
-    requires enough { LEAST_ROOM ≤ length room.old }
-    requires made { HasMade INNER ENDS swept.now.made }
-    requires parts { Took PARTS swept.now.parts }
-{
-    let mut sweep = ReduceSweep::start(n, swept.made, OUT, swept.parts, room, shelf)?;
-    match drive(&mut sweep, MOST_TURNS, shelf)? {
+    if made.inner_count > 1 << 46 || made.ends_count > 1 << 46 || parts.next < PARTS.next {
+        return Ok(None);
+    }
+    let mut sweep = ReduceSweep::start(n, made, OUT, parts, room, bench)?;
+    match drive(&mut sweep, MOST_TURNS, bench)? {
         Turn::Ended => Ok(sweep.count()),
         Turn::More => Ok(None),
     }
 }
 
-/// Whether an operation leaves the canonical file of a table, with the count of its nodes.
-pub(crate) fn leaves<O: Operation>(
-    alloc: Global,
+/// How many nodes are left once a sweep's arcs are reduced. None is answered where that takes too many turns.
+pub(crate) fn reduced<O: Operation>(
     operation: O,
     n: u32,
-    files: Files,
-    wanted: &[bool],
+    operands: [FileNo; 3],
     room: &mut [Rec],
     bench: &mut Bench,
-) -> Result<bool, Fail>
-    requires few { n ≤ 20 }
+) -> Result<Option<u64>, SortFault>
+    requires levels { n ≤ 65535 }
     requires enough { LEAST_ROOM ≤ length room.old }
-    requires files { (files.inner ≡ INNER) × (files.ends ≡ ENDS) }
 {
-    let count = reduced(operation, n, files, room, bench)?;
-    has_canon_of(alloc, n, wanted, count, bench)
+    match swept(operation, n, operands, 0, room, bench)? {
+        Some(arcs) => reduce(n, &arcs, room, bench),
+        None => Ok(None),
+    }
 }
 
 /// Whether the file that was reduced is the canonical one of a table, with that count of its nodes.
@@ -151,8 +141,6 @@ pub(crate) fn has_canon_of(
     requires few { n ≤ 20 }
 {
     let bytes = canon_of(alloc, n, wanted)?;
-    Ok(
-        bench.file(OUT) == bytes.as_slice()
-            && count == Some((bytes.len() as u64 / 24).saturating_sub(1)),
-    )
+    let nodes = (bytes.len() as u64 / 24).saturating_sub(1);
+    Ok(bench.file(OUT) == bytes.as_slice() && count == Some(nodes))
 }

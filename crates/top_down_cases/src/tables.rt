@@ -1,13 +1,15 @@
 //! Operations on random tables, beside the canonical files of the tables that they make.
-ghost use Rattle.std.specs.Prelude.{◌≤◌};
+ghost use Rattle.std.specs.Prelude.{◌≤◌, length};
+ghost use Rattle.top_down_cases.specs.declared.sweeping.TheConstants.{LEAST_ROOM};
 
-use crate::sweeping::{EMPTY, LEAST_ROOM, ONE, THREE, leaves};
+use crate::meant::Meant;
+use crate::sweeping::{EMPTY, LEAST_ROOM, ONE, THREE};
 use bool_tables::Quant;
-use case_tables::{
-    Random, bench_of, choice_of, operator, product_of, quantified_of, restricted_of,
-};
+use case_tables::{Random, bench_of};
+use rec_words::Rec;
+use shelf_model::FileNo;
+use std::alloc::{AllocError, Global};
 use std::test::Fail;
-use top_down_sweep::{Choice, Product, Quantified, Restricted};
 
 /// How many triples of tables of each number of variables up to ten are operands.
 const SEEDS: u64 = 37;
@@ -16,13 +18,8 @@ const SEEDS: u64 = 37;
 /// them, those that its seed chooses.
 const ALL_UNTIL: u32 = 6;
 
-// Whether the tables of a seed are operands of an operation of that number.
-fn is_tried(n: u32, seed: u64, number: u32) -> bool {
-    n <= ALL_UNTIL || u64::from(number) % 4 == seed % 4
-}
-
 /// Which operations are tried.
-#[derive(Clone, Copy, Debug, PartialEq, Eq)]
+#[derive(Clone, Copy)]
 enum Tried {
     Products,
     Choices,
@@ -30,114 +27,137 @@ enum Tried {
     Restrictions,
 }
 
-// The operations on the tables of a seed leave the canonical files of the tables that they make.
-fn leave_files_of(rt: HostRuntime, tried: Tried, n: u32, seed: u64) -> Result<bool, Fail>
-    requires { n ≤ 10 }
-{
-    let alloc = rt.alloc();
-    let mut random = Random::new(seed);
-    let mut variables = random.variables();
-    let first = random.table(alloc, n, variables)?;
-    variables = random.variables();
-    let second = random.table(alloc, n, variables)?;
-    variables = random.variables();
-    let third = random.table(alloc, n, variables)?;
-    let (f, g, h) = (first.as_slice(), second.as_slice(), third.as_slice());
-    let mut bench = bench_of(alloc, n, [f, g, h])?;
-    let mut room = vec![in alloc; EMPTY; LEAST_ROOM]?;
-    let room = room.as_mut_slice();
-    match tried {
-        Tried::Products => {
-            for digits in 0..16 {
-                let made = product_of(alloc, digits, f, g)?;
-                let op = operator(digits);
-                if is_tried(n, seed, digits)
-                    && !leaves(
-                        alloc,
-                        Product { op },
-                        n,
-                        THREE,
-                        made.as_slice(),
-                        room,
-                        &mut bench,
-                    )?
-                {
-                    return Ok(false);
-                }
-            }
-        }
-        Tried::Choices => {
-            let made = choice_of(alloc, f, g, h)?;
-            return leaves(alloc, Choice, n, THREE, made.as_slice(), room, &mut bench);
-        }
-        Tried::Quantifiers => {
-            for variable in 0..n {
-                if !is_tried(n, seed, variable) {
-                    continue;
-                }
-                for kind in [Quant::Exists, Quant::Forall] {
-                    let made = quantified_of(alloc, n, kind, variable, f)?;
-                    let operation = Quantified { kind, variable };
-                    if !leaves(alloc, operation, n, ONE, made.as_slice(), room, &mut bench)? {
-                        return Ok(false);
-                    }
-                }
-            }
-        }
-        Tried::Restrictions => {
-            for variable in 0..n {
-                if !is_tried(n, seed, variable) {
-                    continue;
-                }
-                for value in [false, true] {
-                    let made = restricted_of(alloc, n, variable, value, f)?;
-                    let operation = Restricted { variable, value };
-                    if !leaves(alloc, operation, n, ONE, made.as_slice(), room, &mut bench)? {
-                        return Ok(false);
-                    }
-                }
-            }
+impl Tried {
+    // How many there are on tables of n variables.
+    fn count(self, n: u32) -> u32 {
+        match self {
+            Tried::Products => 16,
+            Tried::Choices => 1,
+            Tried::Quantifiers | Tried::Restrictions => n.saturating_mul(2),
         }
     }
-    Ok(true)
+
+    // The one of that number. There are two for each variable.
+    fn meant(self, number: u32) -> Meant {
+        let (variable, value) = (number / 2, number % 2 == 1);
+        match self {
+            Tried::Products => Meant::Operator(number),
+            Tried::Choices => Meant::Choice,
+            Tried::Quantifiers if value => Meant::Quantifier(Quant::Forall, variable),
+            Tried::Quantifiers => Meant::Quantifier(Quant::Exists, variable),
+            Tried::Restrictions => Meant::Restriction(variable, value),
+        }
+    }
+
+    // The files of their operands.
+    fn operands(self) -> [FileNo; 3] {
+        match self {
+            Tried::Products | Tried::Choices => THREE,
+            Tried::Quantifiers | Tried::Restrictions => ONE,
+        }
+    }
 }
 
-// So do those of all seeds.
-fn leave_each_file(rt: HostRuntime, tried: Tried) -> Result<bool, Fail> {
+// Whether the tables of a seed are operands of an operation.
+fn is_tried(n: u32, seed: u64, meant: Meant) -> bool {
+    let number = match meant {
+        Meant::Operator(number) => number,
+        Meant::Quantifier(_, variable) | Meant::Restriction(variable, _) => variable,
+        Meant::Choice => return true,
+    };
+    n <= ALL_UNTIL || u64::from(number) % 4 == seed % 4
+}
+
+// A table of n variables, or of some of them as chance has it.
+fn random_table(alloc: Global, n: u32, random: &mut Random) -> Result<Vec<bool>, AllocError>
+    requires { n ≤ 10 }
+{
+    let variables = random.variables();
+    random.table(alloc, n, variables)
+}
+
+// The number of the first operation on three tables that doesn't leave the canonical file of the table that it makes.
+fn first_wrong_of(
+    alloc: Global,
+    tried: Tried,
+    n: u32,
+    seed: u64,
+    tables: [&[bool]; 3],
+    room: &mut [Rec],
+) -> Result<Option<u32>, Fail>
+    requires few { n ≤ 10 }
+    requires enough { LEAST_ROOM ≤ length room.old }
+{
+    let mut bench = bench_of(alloc, n, tables)?;
+    for number in 0..tried.count(n) {
+        let meant = tried.meant(number);
+        if is_tried(n, seed, meant)
+            && !meant.leaves(alloc, n, tried.operands(), tables, room, &mut bench)?
+        {
+            return Ok(Some(number));
+        }
+    }
+    Ok(None)
+}
+
+// The same of the random tables of a seed.
+fn first_wrong_of_seed(
+    alloc: Global,
+    tried: Tried,
+    n: u32,
+    seed: u64,
+    room: &mut [Rec],
+) -> Result<Option<u32>, Fail>
+    requires few { n ≤ 10 }
+    requires enough { LEAST_ROOM ≤ length room.old }
+{
+    let mut random = Random::new(seed);
+    let first = random_table(alloc, n, &mut random)?;
+    let second = random_table(alloc, n, &mut random)?;
+    let third = random_table(alloc, n, &mut random)?;
+    let tables = [first.as_slice(), second.as_slice(), third.as_slice()];
+    first_wrong_of(alloc, tried, n, seed, tables, room)
+}
+
+// The same of all seeds: the number of variables, the seed, and that of the operation.
+fn first_wrong(alloc: Global, tried: Tried) -> Result<Option<(u32, u64, u32)>, Fail> {
+    let mut records = vec![in alloc; EMPTY; LEAST_ROOM]?;
+    let room = records.as_mut_slice();
     for n in 0..11 {
-        for seed in 0..SEEDS {
-            if !leave_files_of(rt, tried, n, 1 + 64 * u64::from(n) + seed)? {
-                return Ok(false);
+        for place in 0..SEEDS {
+            let seed = 1 + 64 * u64::from(n) + place;
+            if let Some(number) = first_wrong_of_seed(alloc, tried, n, seed, room)? {
+                return Ok(Some((n, seed, number)));
             }
         }
     }
-    Ok(true)
+    Ok(None)
 }
 
 #[test]
 fn products_leave_the_canonical_files(rt: HostRuntime) -> Result<(), Fail> {
-    let leave = leave_each_file(rt, Tried::Products)?;
-    assert!(rt; leave);
+    let wrong = first_wrong(rt.alloc(), Tried::Products)?;
+    assert!(rt; wrong.is_none(), "{wrong:?}");
     Ok(())
 }
 
 #[test]
 fn choices_leave_the_canonical_files(rt: HostRuntime) -> Result<(), Fail> {
-    let leave = leave_each_file(rt, Tried::Choices)?;
-    assert!(rt; leave);
+    let wrong = first_wrong(rt.alloc(), Tried::Choices)?;
+    assert!(rt; wrong.is_none(), "{wrong:?}");
     Ok(())
 }
 
 #[test]
 fn quantifiers_leave_the_canonical_files(rt: HostRuntime) -> Result<(), Fail> {
-    let leave = leave_each_file(rt, Tried::Quantifiers)?;
-    assert!(rt; leave);
+    let wrong = first_wrong(rt.alloc(), Tried::Quantifiers)?;
+    assert!(rt; wrong.is_none(), "{wrong:?}");
     Ok(())
 }
 
 #[test]
 fn restrictions_leave_the_canonical_files(rt: HostRuntime) -> Result<(), Fail> {
-    let leave = leave_each_file(rt, Tried::Restrictions)?;
-    assert!(rt; leave);
+    let wrong = first_wrong(rt.alloc(), Tried::Restrictions)?;
+    assert!(rt; wrong.is_none(), "{wrong:?}");
     Ok(())
 }

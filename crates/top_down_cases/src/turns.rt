@@ -1,12 +1,15 @@
 //! The turns of a conjunction of a large diagram with a small one.
-use crate::sweeping::{EMPTY, LEAST_ROOM, THREE, swept};
+ghost use Rattle.std.specs.Prelude.{◌≤◌, length};
+ghost use Rattle.top_down_cases.specs.declared.sweeping.TheConstants.{LEAST_ROOM};
+
+use crate::sweeping::{EMPTY, LEAST_ROOM, swept};
 use case_tables::{FIRST, SECOND, operator, put_bytes};
-use rec_words::Ptr;
+use rec_words::{Ptr, Rec};
 use shelf_memory::Bench;
 use shelf_model::FileNo;
 use std::alloc::Global;
 use std::test::Fail;
-use top_down_sweep::{Files, Product};
+use top_down_sweep::Product;
 
 /// How many variables a half of the large diagram has.
 const HALF: u16 = 14;
@@ -122,28 +125,36 @@ fn put_cube(alloc: Global, bench: &mut Bench) -> Result<u64, Fail> {
     put_nodes(bench, SECOND, bytes, below)
 }
 
+// Whether the conjunction of two diagrams takes few turns, and puts so many arcs to nodes.
+fn takes_few_turns(inner: u64, room: &mut [Rec], bench: &mut Bench) -> Result<bool, Fail>
+    requires { LEAST_ROOM ≤ length room.old }
+{
+    let op = operator(0b1000);
+    let operands = [FIRST, SECOND, SECOND];
+    match swept(Product { op }, VARIABLES, operands, 0, room, bench)? {
+        Some(arcs) => Ok(arcs.turns < 60_000 && arcs.made.inner_count == inner),
+        None => Ok(false),
+    }
+}
+
+// Puts both diagrams, and tells whether they have as many nodes as they have to.
+fn put_both(alloc: Global, bench: &mut Bench) -> Result<bool, Fail> {
+    let large = put_large(alloc, bench)?;
+    let small = put_cube(alloc, bench)?;
+    Ok(large == 49_149 && small == 28)
+}
+
 // The conjunction of the large diagram with the cube takes few turns: asks whose answer is known aren't made.
-fn takes_few_turns(rt: HostRuntime) -> Result<bool, Fail> {
-    let mut bench = Bench::empty(rt.alloc());
-    let large = put_large(rt.alloc(), &mut bench)?;
-    let small = put_cube(rt.alloc(), &mut bench)?;
-    let mut room = vec![in rt.alloc(); EMPTY; LEAST_ROOM]?;
-    let files = Files {
-        third: SECOND,
-        ..THREE
-    };
-    let product = Product {
-        op: operator(0b1000),
-    };
-    let Some(swept) = swept(product, VARIABLES, files, room.as_mut_slice(), &mut bench)? else {
-        return Ok(false);
-    };
-    Ok(large == 49_149 && small == 28 && swept.turns < 60_000 && swept.made.inner_count == 27)
+fn conjunction_takes_few_turns(alloc: Global) -> Result<bool, Fail> {
+    let mut bench = Bench::empty(alloc);
+    let both = put_both(alloc, &mut bench)?;
+    let mut room = vec![in alloc; EMPTY; LEAST_ROOM]?;
+    Ok(both && takes_few_turns(27, room.as_mut_slice(), &mut bench)?)
 }
 
 #[test]
 fn a_conjunction_with_a_cube_takes_few_turns(rt: HostRuntime) -> Result<(), Fail> {
-    let few = takes_few_turns(rt)?;
+    let few = conjunction_takes_few_turns(rt.alloc())?;
     assert!(rt; few);
     Ok(())
 }
