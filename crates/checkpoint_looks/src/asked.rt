@@ -1,7 +1,7 @@
 //! Operations, and the tuples that are asked for.
 use crate::diagrams::{Assignment, NO, NodeList, level_of, truth_of};
 use crate::words::{Record, Wrong};
-use bool_tables::Quant;
+use bool_tables::{Bin, Quant};
 use case_tables::operator;
 
 /// What an operation means. An operator is given by a number, whose binary digits are its four values.
@@ -13,11 +13,11 @@ pub(crate) enum Meant {
     Restriction(u32, bool),
 }
 
-// The value of a quantifier over two values.
-fn joined(kind: Quant, a: bool, b: bool) -> bool {
+// The operator that a quantifier makes of two values.
+fn join_of(kind: Quant) -> Bin {
     match kind {
-        Quant::Exists => a || b,
-        Quant::Forall => a && b,
+        Quant::Exists => operator(0b1110),
+        Quant::Forall => operator(0b1000),
     }
 }
 
@@ -60,17 +60,9 @@ impl Meant {
     /// The value of a tuple's function from those of its members.
     pub(crate) fn value(self, asks: &Asked<'_>, at: Assignment) -> Result<bool, Wrong> {
         match self {
-            Meant::Operator(digits) => {
-                let (a, b) = (asks.member(0, at)?, asks.member(1, at)?);
-                Ok(operator(digits).value(a, b))
-            }
-            Meant::Choice if asks.member(0, at)? => asks.member(1, at),
-            Meant::Choice => asks.member(2, at),
-            Meant::Quantifier(kind, variable) => {
-                let low = asks.either(kind, at.with(u64::from(variable), false))?;
-                let high = asks.either(kind, at.with(u64::from(variable), true))?;
-                Ok(joined(kind, low, high))
-            }
+            Meant::Operator(digits) => asks.joined(operator(digits), at),
+            Meant::Choice => asks.chosen(at),
+            Meant::Quantifier(kind, variable) => asks.quantified(kind, u64::from(variable), at),
             Meant::Restriction(variable, value) => {
                 asks.member(0, at.with(u64::from(variable), value))
             }
@@ -99,7 +91,7 @@ impl<'a> Operands<'a> {
 /// A tuple as it is asked for: its first word is the node that is read next for it, and each member has two.
 #[derive(Clone, Copy)]
 pub(crate) struct Asked<'a> {
-    pub(crate) form: Record,
+    pub(crate) form: Record<'a>,
     pub(crate) operands: Operands<'a>,
 }
 
@@ -125,9 +117,22 @@ impl<'a> Asked<'a> {
         self.operands.of(member).value(chosen, at)
     }
 
-    // The value of a quantifier over the first two members.
-    fn either(&self, kind: Quant, at: Assignment) -> Result<bool, Wrong> {
-        Ok(joined(kind, self.member(0, at)?, self.member(1, at)?))
+    // The value of an operator over the first two members.
+    fn joined(&self, op: Bin, at: Assignment) -> Result<bool, Wrong> {
+        Ok(op.value(self.member(0, at)?, self.member(1, at)?))
+    }
+
+    // The value of the second member or of the third one, as the first one has it.
+    fn chosen(&self, at: Assignment) -> Result<bool, Wrong> {
+        let member = if self.member(0, at)? { 1 } else { 2 };
+        self.member(member, at)
+    }
+
+    // The value of a quantifier over the first two members, at both values of a variable.
+    fn quantified(&self, kind: Quant, variable: u64, at: Assignment) -> Result<bool, Wrong> {
+        let op = join_of(kind);
+        let low = self.joined(op, at.with(variable, false))?;
+        Ok(op.value(low, self.joined(op, at.with(variable, true))?))
     }
 
     // Whether the two pointers are those of a node of the key's level that comes before the key.

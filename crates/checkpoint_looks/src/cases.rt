@@ -7,8 +7,7 @@ use crate::shapes::{Shape, value_at};
 use arc_file::Unreduced;
 use case_lives::{ENDS, INNER};
 use case_tables::{
-    FIRST, Random, SECOND, THIRD, bench_of, choice_of, product_of, put_bytes, quantified_of,
-    restricted_of,
+    Random, SECOND, THIRD, bench_of, choice_of, product_of, put_bytes, quantified_of, restricted_of,
 };
 use rec_words::Ptr;
 use shelf_memory::Bench;
@@ -64,14 +63,20 @@ pub(crate) struct Plan {
     pub(crate) seed: u64,
 }
 
+/// Three tables of as many variables.
+#[derive(Drop)]
+struct Tables {
+    first: Vec<bool>,
+    second: Vec<bool>,
+    third: Vec<bool>,
+}
+
 /// A plan with its tables, the text that its sweep reads, and the table that it makes or reads from.
 #[derive(Drop)]
 pub(crate) struct Case {
     pub(crate) kind: Kind,
     variables: u32,
-    first: Vec<bool>,
-    second: Vec<bool>,
-    third: Vec<bool>,
+    tables: Tables,
     pub(crate) text: Vec<u8>,
     pub(crate) wanted: Vec<bool>,
 }
@@ -87,11 +92,14 @@ fn with_last(alloc: Global, table: &[bool], value: usize) -> Result<Vec<bool>, A
 }
 
 // The first table, from a random one.
-fn first_of(alloc: Global, kind: Kind, random: &[bool]) -> Result<Vec<bool>, AllocError> {
+fn first_of(alloc: Global, kind: Kind, n: u32, random: &mut Random) -> Result<Vec<bool>, AllocError>
+    requires { n ≤ 12 }
+{
+    let table = random.table(alloc, n, usize::MAX)?;
     match kind {
-        Kind::Reduction(shape) => shape.table(alloc, random),
-        Kind::Comparison(Other::Opposite) => with_last(alloc, random, 1),
-        _ => Vec::from_slice(alloc, random),
+        Kind::Reduction(shape) => shape.table(alloc, table.as_slice()),
+        Kind::Comparison(Other::Opposite) => with_last(alloc, table.as_slice(), 1),
+        _ => Ok(table),
     }
 }
 
@@ -99,35 +107,63 @@ fn first_of(alloc: Global, kind: Kind, random: &[bool]) -> Result<Vec<bool>, All
 fn second_of(
     alloc: Global,
     kind: Kind,
+    n: u32,
     first: &[bool],
-    random: &[bool],
-) -> Result<Vec<bool>, AllocError> {
+    random: &mut Random,
+) -> Result<Vec<bool>, AllocError>
+    requires { n ≤ 12 }
+{
+    let table = random.table(alloc, n, usize::MAX)?;
     match kind {
-        Kind::Own(Meant::Quantifier(_, _)) | Kind::OfStep(Meant::Quantifier(_, _)) => {
-            Vec::from_slice(alloc, first)
-        }
-        Kind::Comparison(Other::Same) => Vec::from_slice(alloc, first),
+        Kind::Own(Meant::Quantifier(_, _))
+        | Kind::OfStep(Meant::Quantifier(_, _))
+        | Kind::Comparison(Other::Same) => Vec::from_slice(alloc, first),
         Kind::Comparison(Other::Opposite) => with_last(alloc, first, 0),
         Kind::Comparison(Other::Complement) => product_of(alloc, NOT, first, first),
-        Kind::Implication(true) => product_of(alloc, OR, first, random),
-        _ => Vec::from_slice(alloc, random),
+        Kind::Implication(true) => product_of(alloc, OR, first, table.as_slice()),
+        _ => Ok(table),
     }
 }
 
-// What an operation makes of three tables of n variables.
-fn made_of(
+impl Tables {
+    // Those of a kind of sweep, from random ones of n variables.
+    fn of(alloc: Global, kind: Kind, n: u32, seed: u64) -> Result<Tables, AllocError>
+        requires { n ≤ 12 }
+    {
+        let mut random = Random::new(seed);
+        let first = first_of(alloc, kind, n, &mut random)?;
+        let second = second_of(alloc, kind, n, first.as_slice(), &mut random)?;
+        let third = random.table(alloc, n, usize::MAX)?;
+        Ok(Tables {
+            first,
+            second,
+            third,
+        })
+    }
+
+    fn slices(&self) -> [&[bool]; 3] {
+        [
+            self.first.as_slice(),
+            self.second.as_slice(),
+            self.third.as_slice(),
+        ]
+    }
+}
+
+// What a sweep of a kind makes of three tables of n variables, or the first one, which it reads.
+fn wanted_of(
     alloc: Global,
-    meant: Meant,
+    kind: Kind,
     n: u32,
-    first: &[bool],
-    second: &[bool],
-    third: &[bool],
+    tables: [&[bool]; 3],
 ) -> Result<Vec<bool>, AllocError> {
-    match meant {
-        Meant::Operator(digits) => product_of(alloc, digits, first, second),
-        Meant::Choice => choice_of(alloc, first, second, third),
-        Meant::Quantifier(kind, level) => quantified_of(alloc, n, kind, level, first),
-        Meant::Restriction(level, value) => restricted_of(alloc, n, level, value, first),
+    let [first, second, third] = tables;
+    match kind.operation() {
+        Some(Meant::Operator(digits)) => product_of(alloc, digits, first, second),
+        Some(Meant::Choice) => choice_of(alloc, first, second, third),
+        Some(Meant::Quantifier(kind, level)) => quantified_of(alloc, n, kind, level, first),
+        Some(Meant::Restriction(level, value)) => restricted_of(alloc, n, level, value, first),
+        None => Vec::from_slice(alloc, first),
     }
 }
 
@@ -150,6 +186,14 @@ impl Kind {
         }
     }
 
+    // The place whose value it asks for.
+    fn place(self) -> usize {
+        match self {
+            Kind::Value(place) => place,
+            _ => 0,
+        }
+    }
+
     /// The number of its sweep in a step.
     pub(crate) fn sweep(self) -> u32
         ensures { result ≤ 1 }
@@ -161,40 +205,35 @@ impl Kind {
     }
 }
 
+// Puts the arcs of a diagram of that shape.
+fn put_arcs(
+    alloc: Global,
+    shape: Shape,
+    n: u32,
+    table: &[bool],
+    bench: &mut Bench,
+) -> Result<(), Fail> {
+    let inner = shape.inner(alloc, n)?;
+    put_bytes(bench, INNER, inner.as_slice())?;
+    let ends = shape.ends(alloc, n, table)?;
+    put_bytes(bench, ENDS, ends.as_slice())
+}
+
 impl Case {
     /// That of a plan.
     pub(crate) fn of(alloc: Global, plan: Plan) -> Result<Case, AllocError> {
         let (kind, n) = (plan.kind, plan.variables.min(12));
-        let mut random = Random::new(plan.seed);
-        let one = random.table(alloc, n, usize::MAX)?;
-        let two = random.table(alloc, n, usize::MAX)?;
-        let third = random.table(alloc, n, usize::MAX)?;
-        let first = first_of(alloc, kind, one.as_slice())?;
-        let second = second_of(alloc, kind, first.as_slice(), two.as_slice())?;
-        let wanted = match kind.operation() {
-            Some(meant) => {
-                let (a, b) = (first.as_slice(), second.as_slice());
-                made_of(alloc, meant, n, a, b, third.as_slice())?
-            }
-            None => Vec::from_slice(alloc, first.as_slice())?,
+        let at = Assignment {
+            variables: n,
+            place: kind.place(),
         };
-        let place = match kind {
-            Kind::Value(place) => place,
-            _ => 0,
-        };
-        let text = text_of(
-            alloc,
-            Assignment {
-                variables: n,
-                place,
-            },
-        )?;
+        let text = text_of(alloc, at)?;
+        let tables = Tables::of(alloc, kind, n, plan.seed)?;
+        let wanted = wanted_of(alloc, kind, n, tables.slices())?;
         Ok(Case {
             kind,
             variables: n,
-            first,
-            second,
-            third,
+            tables,
             text,
             wanted,
         })
@@ -210,44 +249,40 @@ impl Case {
     /// A folder with its files.
     pub(crate) fn bench(&self, alloc: Global) -> Result<Bench, Fail> {
         let n = self.variables();
-        let (first, second) = (self.first.as_slice(), self.second.as_slice());
-        let mut bench = bench_of(alloc, n, [first, second, self.third.as_slice()])?;
+        let mut bench = bench_of(alloc, n, self.tables.slices())?;
         if let Kind::Reduction(shape) = self.kind {
-            let inner = shape.inner(alloc, n)?;
-            let ends = shape.ends(alloc, n, first)?;
-            put_bytes(&mut bench, INNER, inner.as_slice())?;
-            put_bytes(&mut bench, ENDS, ends.as_slice())?;
+            put_arcs(alloc, shape, n, self.tables.first.as_slice(), &mut bench)?;
         }
         Ok(bench)
     }
 
     /// The answer that its sweep has to give, if it is to give one.
     pub(crate) fn answer(&self) -> Option<bool> {
+        let [first, second, _third] = self.tables.slices();
         match self.kind {
             Kind::Implication(_) => Some(!has_one(self.wanted.as_slice())),
-            Kind::Comparison(_) => Some(self.first.as_slice() == self.second.as_slice()),
-            Kind::Value(place) => self.first.as_slice().get(place).copied(),
+            Kind::Comparison(_) => Some(first == second),
+            Kind::Value(place) => first.get(place).copied(),
             _ => None,
         }
     }
 
-    /// The files of its operands.
-    pub(crate) fn operands(&self) -> [FileNo; 3] {
+    /// The file of its third operand. The others are the first two.
+    pub(crate) fn third(&self) -> FileNo {
         match self.kind {
-            Kind::Implication(_) => [FIRST, SECOND, SECOND],
-            _ => [FIRST, SECOND, THIRD],
+            Kind::Implication(_) => SECOND,
+            _ => THIRD,
         }
     }
 
     /// The operation whose checkpoints its sweep saves, and whether their words are those of a step's operation.
     pub(crate) fn saved_operation(&self) -> Option<(Meant, bool)> {
-        let of_step = match self.kind {
-            Kind::OfStep(_) => true,
-            _ => false,
-        };
-        match self.kind.operation() {
-            Some(meant) => Some((meant, of_step)),
-            None => None,
+        match self.kind {
+            Kind::OfStep(meant) => Some((meant, true)),
+            kind => match kind.operation() {
+                Some(meant) => Some((meant, false)),
+                None => None,
+            },
         }
     }
 }

@@ -1,11 +1,13 @@
 //! Diagrams in files, evaluated at an assignment pointer by pointer.
-use crate::words::{Wrong, put, words_of};
+use crate::words::{Wrong, put, word_in};
+use case_lives::{ENDS, INNER};
+use shelf_memory::Bench;
 use std::alloc::Global;
 
 /// The two pointers to truth values.
 pub(crate) const NO: u64 = 0x8000_0000_0000_0000;
 
-const YES: u64 = 0x8000_0000_0000_0001;
+pub(crate) const YES: u64 = 0x8000_0000_0000_0001;
 
 /// The level of a pointer. That of a truth value is deeper than any.
 pub(crate) fn level_of(pointer: u64) -> u64 {
@@ -19,10 +21,10 @@ pub(crate) fn first_of(level: u64) -> u64 {
 
 /// The truth value that a pointer is.
 pub(crate) fn truth_of(pointer: u64) -> Option<bool> {
-    if pointer == NO || pointer == YES {
-        Some(pointer == YES)
-    } else {
-        None
+    match pointer {
+        NO => Some(false),
+        YES => Some(true),
+        _ => None,
     }
 }
 
@@ -77,24 +79,26 @@ pub(crate) struct NodeList {
     pub(crate) root: u64,
 }
 
+// The node whose three words these bytes are.
+fn node_in(bytes: &[u8]) -> PlainNode {
+    PlainNode {
+        uid: word_in(bytes, 0),
+        low: word_in(bytes, 1),
+        high: word_in(bytes, 2),
+    }
+}
+
 impl NodeList {
     /// The nodes that stand in the bytes of a file, and behind them its trailer.
     pub(crate) fn of(alloc: Global, bytes: &[u8]) -> Result<NodeList, Wrong> {
-        let words = words_of(alloc, bytes)?;
         let mut nodes = Vec::new(alloc);
-        let mut root = NO;
-        for three in words.as_slice().chunks_exact(3) {
-            if let [uid, low, high] = three {
-                root = *uid;
-                let node = PlainNode {
-                    uid: *uid,
-                    low: *low,
-                    high: *high,
-                };
-                put(&mut nodes, node)?;
-            }
+        for three in bytes.chunks_exact(24) {
+            put(&mut nodes, node_in(three))?;
         }
-        nodes.pop();
+        let root = match nodes.pop() {
+            Some(trailer) => trailer.uid,
+            None => NO,
+        };
         Ok(NodeList { nodes, root })
     }
 
@@ -152,23 +156,31 @@ pub(crate) fn side_of(source: u64, high: bool) -> u64 {
     source.wrapping_mul(2) | u64::from(high)
 }
 
-/// The first arcs of a file, so many.
-pub(crate) fn arcs_of(alloc: Global, bytes: &[u8], count: u64) -> Result<Vec<PlainArc>, Wrong> {
-    let end = (count as usize).saturating_mul(16);
-    let front = bytes.get(0..end).ok_or(Wrong::Arcs)?;
-    let words = words_of(alloc, front)?;
+// The arc whose two words these bytes are.
+fn arc_in(bytes: &[u8]) -> PlainArc {
+    let source = word_in(bytes, 0);
+    PlainArc {
+        source: source & !NO,
+        high: source >= NO,
+        target: word_in(bytes, 1),
+    }
+}
+
+// The arcs that stand in bytes.
+fn arcs_in(alloc: Global, bytes: &[u8]) -> Result<Vec<PlainArc>, Wrong> {
     let mut arcs = Vec::new(alloc);
-    for two in words.as_slice().chunks_exact(2) {
-        if let [first, target] = two {
-            let arc = PlainArc {
-                source: *first & !NO,
-                high: *first >= NO,
-                target: *target,
-            };
-            put(&mut arcs, arc)?;
-        }
+    for two in bytes.chunks_exact(16) {
+        put(&mut arcs, arc_in(two))?;
     }
     Ok(arcs)
+}
+
+// The first arcs of a file, so many.
+fn first_arcs(alloc: Global, bytes: &[u8], count: u64) -> Result<Vec<PlainArc>, Wrong> {
+    match bytes.get(0..(count as usize).saturating_mul(16)) {
+        Some(front) => arcs_in(alloc, front),
+        None => Err(Wrong::Arcs),
+    }
 }
 
 /// Whether arcs ascend by their targets and sides, each leads to a deeper node, and none stands twice.
@@ -215,6 +227,35 @@ fn found(arcs: &[PlainArc], side: u64) -> (u64, u64) {
     (target, count)
 }
 
+/// The arcs that were read from two files: those to nodes, and those to truth values.
+#[derive(Drop)]
+pub(crate) struct ArcLists {
+    inner: Vec<PlainArc>,
+    ends: Vec<PlainArc>,
+}
+
+impl ArcLists {
+    /// The first arcs of the two files of a sweep, so many of each.
+    pub(crate) fn of(
+        alloc: Global,
+        inner: u64,
+        ends: u64,
+        bench: &Bench,
+    ) -> Result<ArcLists, Wrong> {
+        let inner = first_arcs(alloc, bench.file(INNER), inner)?;
+        let ends = first_arcs(alloc, bench.file(ENDS), ends)?;
+        Ok(ArcLists { inner, ends })
+    }
+
+    /// The arcs themselves.
+    pub(crate) fn arcs(&self) -> Arcs<'_> {
+        Arcs {
+            inner: self.inner.as_slice(),
+            ends: self.ends.as_slice(),
+        }
+    }
+}
+
 /// The arcs of a diagram that isn't reduced: those to nodes, and those to truth values.
 #[derive(Clone, Copy)]
 pub(crate) struct Arcs<'a> {
@@ -240,13 +281,20 @@ impl<'a> Arcs<'a> {
         self.target(side)?.ok_or(Wrong::Side)
     }
 
+    // Where a pointer leads at an assignment: along its node's side, or no further.
+    fn next(&self, pointer: u64, at: Assignment) -> Result<u64, Wrong> {
+        if truth_of(pointer).is_some() {
+            Ok(pointer)
+        } else {
+            self.only(side_of(pointer, at.bit(level_of(pointer))))
+        }
+    }
+
     /// The value of a pointer's function.
     pub(crate) fn value(&self, pointer: u64, at: Assignment) -> Result<bool, Wrong> {
         let mut here = pointer;
         for _level in 0..at.variables {
-            if truth_of(here).is_none() {
-                here = self.only(side_of(here, at.bit(level_of(here))))?;
-            }
+            here = self.next(here, at)?;
         }
         truth_of(here).ok_or(Wrong::Side)
     }

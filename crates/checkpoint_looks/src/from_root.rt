@@ -1,9 +1,12 @@
 //! Whether the checkpoint of a sweep from the root down stands for the table of its step.
 use crate::asked::{Asked, Meant, Operands};
 use crate::diagrams::{
-    Arcs, Assignment, NodeList, arcs_of, are_ends, are_inner, first_of, level_of, side_of, truth_of,
+    ArcLists, Arcs, Assignment, NodeList, PlainArc, YES, are_ends, are_inner, first_of, level_of,
+    side_of, truth_of,
 };
-use crate::words::{Point, Record, Wrong, ask_for, put};
+use crate::words::{Form, Point, Record, Wrong, ask_for, check_equal, put};
+use case_lives::{ENDS, INNER};
+use case_tables::{FIRST, SECOND};
 use shelf_memory::Bench;
 use shelf_model::FileNo;
 use std::alloc::Global;
@@ -14,16 +17,14 @@ const NOBODY: u64 = u64::MAX;
 /// How many words of an ask come before its asker, and of a tuple before its number.
 const FORM: usize = 7;
 
-/// The operation of a step, and the files and variables that it is on.
+/// The operation of a step, the variables that it is on, and the file of its third operand.
 #[derive(Clone, Copy)]
 pub(crate) struct TopDownTask {
     pub(crate) variables: u32,
     pub(crate) meant: Meant,
     /// Whether its words are those of a step's operation, of whichever kind, or those of its own kind alone.
     pub(crate) of_step: bool,
-    pub(crate) operands: [FileNo; 3],
-    pub(crate) inner: FileNo,
-    pub(crate) ends: FileNo,
+    pub(crate) third: FileNo,
 }
 
 /// What a checkpoint says of a sweep, with the files that it rests on.
@@ -33,49 +34,154 @@ struct Picture<'a> {
     meant: Meant,
     operands: Operands<'a>,
     arcs: Arcs<'a>,
-    waiting: &'a [Record],
+    waiting: &'a [Record<'a>],
     root: u64,
     /// The tuple that was numbered last, whose eighth word is its number, and the ask that was taken last.
-    newest: Option<Record>,
-    taken: Option<Record>,
+    newest: Option<Record<'a>>,
+    taken: Option<Record<'a>>,
 }
 
 // Refuses a checkpoint whose words from 40 on aren't these.
-fn check_words(point: &Point, words: &[u64]) -> Result<(), Wrong> {
-    let mut at = 0usize;
-    let mut same = true;
+fn check_words(point: Point<'_>, words: &[u64]) -> Result<(), Wrong> {
+    let mut at = 40usize;
     for word in words {
-        same = same && point.carried(at.saturating_add(40)) == *word;
+        point.check_word(at, *word)?;
         at = at.saturating_add(1);
     }
-    ask_for(same, Wrong::Task)?;
-    point.check_unused(at.saturating_add(40))
+    Ok(())
 }
 
+/// The form of its words. The file of the third operand is named from place 10 on.
+const WORDS: &Form = &Form {
+    sweep: 0,
+    tables: 3,
+    files: &[(2, FIRST), (6, SECOND), (14, INNER), (17, ENDS)],
+    flags: &[(1, 0), (4, 1), (8, 1), (12, 1), (20, 1), (22, 8), (31, 8)],
+    words: 51,
+};
+
 // Refuses a checkpoint whose words name something else than the task.
-fn check_task(task: &TopDownTask, point: &Point) -> Result<(), Wrong> {
-    point.check_front(0, 3)?;
-    let [first, second, third] = task.operands;
-    let operands = point.names(2, first) && point.names(6, second) && point.names(10, third);
-    let arcs = point.names(14, task.inner) && point.names(17, task.ends);
-    let variables = point.carried(0) == u64::from(task.variables);
-    ask_for(operands && arcs && variables, Wrong::Task)?;
-    point.check_no_runs(1)?;
-    point.check_no_runs(2)?;
-    check_words(point, &task.meant.words(task.of_step))
+fn check_task(task: &TopDownTask, point: Point<'_>) -> Result<(), Wrong> {
+    point
+        .check_form(WORDS)
+        .and(point.check_word(0, u64::from(task.variables)))
+        .and(point.check_word(10, u64::from(task.third.step)))
+        .and(point.check_word(11, task.third.part))
+        .and(point.check_word(20, 1))
+        .and(point.check_no_runs(1))
+        .and(point.check_no_runs(2))
+        .and(check_words(point, &task.meant.words(task.of_step)))
 }
 
 /// Where a side leads.
 #[derive(Clone, Copy)]
-enum Lead {
+enum Lead<'a> {
     /// To a pointer.
     To(u64),
     /// To the tuple of an ask that waits.
-    Asks(Record),
+    Asks(Record<'a>),
+}
+
+// The ask of a side; refused where there are two.
+fn ask_of<'a>(waiting: &[Record<'a>], side: u64) -> Result<Option<Record<'a>>, Wrong> {
+    let mut found = None;
+    for ask in waiting {
+        if ask.word(FORM) == side {
+            ask_for(found.is_none(), Wrong::Side)?;
+            found = Some(*ask);
+        }
+    }
+    Ok(found)
+}
+
+// Whether a node lies behind the key of no ask.
+fn is_up_to_keys(waiting: &[Record<'_>], uid: u64) -> bool {
+    for ask in waiting {
+        if uid > ask.word(0) {
+            return false;
+        }
+    }
+    true
+}
+
+// Whether a node at hand is there, and lies behind the key of no ask.
+fn may_be_at_hand(waiting: &[Record<'_>], list: &NodeList, hand: Option<u64>) -> bool {
+    let Some(place) = hand else {
+        return true;
+    };
+    match list.nodes.as_slice().get(place as usize) {
+        Some(node) => is_up_to_keys(waiting, node.uid),
+        None => false,
+    }
+}
+
+// The nodes that have a number: the root, and those that arcs lead to, which ascend.
+fn numbered(alloc: Global, root: u64, inner: &[PlainArc]) -> Result<Vec<u64>, Wrong> {
+    let mut nodes = Vec::new(alloc);
+    let mut last = root;
+    put(&mut nodes, last)?;
+    for arc in inner {
+        if arc.target != last {
+            last = arc.target;
+            put(&mut nodes, last)?;
+        }
+    }
+    Ok(nodes)
+}
+
+// Whether a node's number is the one behind that of another one, or the first one of a deeper level.
+fn follows(node: u64, last: u64) -> bool {
+    let level = level_of(node);
+    if level_of(last) == level {
+        node == last.wrapping_add(1)
+    } else {
+        level_of(last) < level && node == first_of(level)
+    }
+}
+
+// Refuses numbers that leave a gap, from that of the root up to that of the node that was numbered last.
+fn check_numbers(root: u64, nodes: &[u64], newest: u64) -> Result<(), Wrong> {
+    let mut last = root;
+    let mut right = root == first_of(level_of(root));
+    for node in nodes {
+        right = right && (*node == root || follows(*node, last));
+        last = *node;
+    }
+    ask_for(right && last == newest, Wrong::Number)
+}
+
+// Refuses arcs that aren't in the order of their files, or of which it isn't known whether one leads to 1.
+fn check_arcs(arcs: Arcs<'_>, variables: u32, has_one: bool) -> Result<(), Wrong> {
+    let inner = are_inner(arcs.inner, variables);
+    let ends = are_ends(arcs.ends, variables);
+    let mut one = false;
+    for arc in arcs.ends {
+        one = one || arc.target == YES;
+    }
+    ask_for(inner && ends && one == has_one, Wrong::Arcs)
+}
+
+// The last side from which an arc leads to a node, or 0.
+fn last_side_to(node: u64, arcs: &[PlainArc]) -> u64 {
+    let mut last = 0u64;
+    for arc in arcs {
+        if arc.target == node {
+            last = last.max(arc.side());
+        }
+    }
+    last
+}
+
+// Refuses it where the newest tuple, or an arc to its node, is from behind the last ask that was taken.
+fn check_answered(taken: Record<'_>, newest: Record<'_>, inner: &[PlainArc]) -> Result<(), Wrong> {
+    let earlier = newest.precedes(taken, FORM);
+    let same = !earlier && !taken.precedes(newest, FORM);
+    let answered = same && last_side_to(node_of(newest), inner) <= taken.word(FORM);
+    ask_for(earlier || answered, Wrong::Waiting)
 }
 
 // The node of a tuple that was numbered.
-fn node_of(newest: &Record) -> u64 {
+fn node_of(newest: Record<'_>) -> u64 {
     first_of(level_of(newest.word(0))).saturating_add(newest.word(FORM))
 }
 
@@ -87,41 +193,29 @@ impl<'a> Picture<'a> {
         }
     }
 
-    // The value of a tuple's function.
-    fn asked_value(&self, form: Record, at: Assignment) -> Result<bool, Wrong> {
-        let asked = Asked {
+    // A tuple as it is asked for.
+    fn asked(&self, form: Record<'a>) -> Asked<'a> {
+        Asked {
             form,
             operands: self.operands,
-        };
-        self.meant.value(&asked, at)
+        }
+    }
+
+    // The value of a tuple's function.
+    fn asked_value(&self, form: Record<'a>, at: Assignment) -> Result<bool, Wrong> {
+        self.meant.value(&self.asked(form), at)
     }
 
     // Whether the operation asks for a tuple.
-    fn asks(&self, form: Record) -> bool {
-        let asked = Asked {
-            form,
-            operands: self.operands,
-        };
-        asked.is_of(self.meant)
-    }
-
-    // The ask of a side; refused where there are two.
-    fn ask_of(&self, side: u64) -> Result<Option<Record>, Wrong> {
-        let mut found = None;
-        for ask in self.waiting {
-            if ask.word(FORM) == side {
-                ask_for(found.is_none(), Wrong::Side)?;
-                found = Some(*ask);
-            }
-        }
-        Ok(found)
+    fn asks(&self, form: Record<'a>) -> bool {
+        self.asked(form).is_of(self.meant)
     }
 
     // Where a side leads: along an arc, or to a tuple that is asked for.
-    fn lead_of(&self, side: u64) -> Result<Lead, Wrong> {
-        match (self.arcs.target(side)?, self.ask_of(side)?) {
-            (Some(target), None) => Ok(Lead::To(target)),
-            (None, Some(ask)) => Ok(Lead::Asks(ask)),
+    fn lead_of(&self, side: u64) -> Result<Lead<'a>, Wrong> {
+        match (self.arcs.target(side), ask_of(self.waiting, side)) {
+            (Ok(Some(target)), Ok(None)) => Ok(Lead::To(target)),
+            (Ok(None), Ok(Some(ask))) => Ok(Lead::Asks(ask)),
             _ => Err(Wrong::Side),
         }
     }
@@ -146,55 +240,45 @@ impl<'a> Picture<'a> {
         if self.newest.is_some() {
             return self.node_value(self.root, at);
         }
-        let ask = self.ask_of(NOBODY)?;
-        self.asked_value(ask.ok_or(Wrong::Side)?, at)
+        match ask_of(self.waiting, NOBODY) {
+            Ok(Some(ask)) => self.asked_value(ask, at),
+            _ => Err(Wrong::Side),
+        }
     }
 
     // Refuses it where it stands for another table.
     fn check_table(&self, wanted: &[bool]) -> Result<(), Wrong> {
         let mut place = 0usize;
         for value in wanted {
-            let is = self.value(self.at(place))?;
-            ask_for(is == *value, Wrong::Value)?;
+            check_equal(self.value(self.at(place)), Ok(*value))?;
             place = place.saturating_add(1);
         }
         Ok(())
     }
 
     // Refuses it where the tuple that was numbered last hasn't the function of its node, or isn't asked for.
-    fn check_newest(&self, newest: Record, places: usize) -> Result<(), Wrong> {
-        ask_for(self.asks(newest), Wrong::Waiting)?;
+    fn check_newest(&self, newest: Record<'a>, places: usize) -> Result<(), Wrong> {
         for place in 0..places {
-            let wanted = self.asked_value(newest, self.at(place))?;
-            let is = self.node_value(node_of(&newest), self.at(place))?;
-            ask_for(is == wanted, Wrong::Value)?;
+            let at = self.at(place);
+            check_equal(
+                self.asked_value(newest, at),
+                self.node_value(node_of(newest), at),
+            )?;
         }
-        Ok(())
+        ask_for(self.asks(newest), Wrong::Waiting)
     }
 
-    // Whether a node lies behind the key of no ask.
-    fn is_up_to_keys(&self, uid: u64) -> bool {
-        for ask in self.waiting {
-            if uid > ask.word(0) {
-                return false;
-            }
-        }
-        true
-    }
-
-    // Refuses a node at hand that isn't there, or lies behind the key of an ask.
-    fn check_hand(&self, list: &NodeList, hand: Option<u64>) -> Result<(), Wrong> {
-        let Some(place) = hand else {
-            return Ok(());
-        };
-        let node = list.nodes.as_slice().get(place as usize);
-        let node = node.ok_or(Wrong::Hand)?;
-        ask_for(self.is_up_to_keys(node.uid), Wrong::Hand)
+    // Refuses an operand's node at hand that isn't there, or lies behind the key of an ask.
+    fn check_hands(&self, point: Point<'_>) -> Result<(), Wrong> {
+        let first = may_be_at_hand(self.waiting, self.operands.first, point.maybe(4));
+        let second = may_be_at_hand(self.waiting, self.operands.second, point.maybe(8));
+        let third = may_be_at_hand(self.waiting, self.operands.third, point.maybe(12));
+        ask_for(first && second && third, Wrong::Hand)
     }
 
     // Whether an ask comes behind the last one that was taken.
-    fn is_later(&self, ask: &Record) -> bool {
-        match &self.taken {
+    fn is_later(&self, ask: Record<'_>) -> bool {
+        match self.taken {
             Some(taken) => taken.precedes(ask, 8),
             None => true,
         }
@@ -204,98 +288,77 @@ impl<'a> Picture<'a> {
     fn check_asks(&self) -> Result<(), Wrong> {
         for ask in self.waiting {
             let side = ask.word(FORM);
-            let root = side == NOBODY;
-            let above = root || level_of(side / 2) < level_of(ask.word(0));
-            let known = root || self.newest.is_some();
-            let sound = above && known && self.is_later(ask);
-            ask_for(sound && self.asks(*ask), Wrong::Waiting)?;
+            let above = level_of(side / 2) < level_of(ask.word(0));
+            let known = side == NOBODY || self.newest.is_some() && above;
+            let sound = known && self.is_later(*ask) && self.asks(*ask);
+            ask_for(sound, Wrong::Waiting)?;
         }
         Ok(())
     }
 
-    // Refuses it where an arc to the newest node is from behind the last ask that was taken.
-    fn check_answered(&self, newest: Record) -> Result<(), Wrong> {
-        let taken = self.taken.ok_or(Wrong::Waiting)?;
-        let mut right = !taken.precedes(&newest, FORM);
-        for arc in self.arcs.inner {
-            let mut answered = newest;
-            answered.w[FORM] = arc.side();
-            let newer = arc.target == node_of(&newest) && taken.precedes(&answered, 8);
-            right = right && !newer;
-        }
-        ask_for(right, Wrong::Waiting)
+    // Whether both sides of a node lead somewhere.
+    fn leads_on(&self, node: u64) -> bool {
+        let low = self.lead_of(side_of(node, false)).is_ok();
+        low && self.lead_of(side_of(node, true)).is_ok()
     }
 
-    // The nodes that have a number: the root, and those that arcs lead to, which ascend.
-    fn numbered(&self, alloc: Global) -> Result<Vec<u64>, Wrong> {
-        let mut nodes = Vec::new(alloc);
-        let mut last = self.root;
-        put(&mut nodes, last)?;
-        for arc in self.arcs.inner {
-            if arc.target != last {
-                put(&mut nodes, arc.target)?;
-                last = arc.target;
-            }
-        }
-        Ok(nodes)
-    }
-
-    // Refuses numbers that leave a gap, up to that of the tuple that was numbered last.
-    fn check_numbers(&self, nodes: &[u64], newest: Record) -> Result<(), Wrong> {
-        let mut last = u64::MAX;
-        let mut right = true;
-        for node in nodes {
-            let level = level_of(*node);
-            let next = *node == last.wrapping_add(1) && level_of(last) == level;
-            let deeper = level_of(last) < level || *node == self.root;
-            right = right && (next || deeper && *node == first_of(level));
-            last = *node;
-        }
-        ask_for(right && last == node_of(&newest), Wrong::Number)
+    // How many arcs and asks there are.
+    fn leads(&self) -> usize {
+        let arcs = self.arcs.inner.len().saturating_add(self.arcs.ends.len());
+        arcs.saturating_add(self.waiting.len())
     }
 
     // Refuses it where an arc or an ask is of no node that has a number, or a side of such a node leads nowhere.
     fn check_sides(&self, nodes: &[u64]) -> Result<(), Wrong> {
+        let mut right = self.leads() == nodes.len().saturating_mul(2);
         for node in nodes {
-            self.lead_of(side_of(*node, false))?;
-            self.lead_of(side_of(*node, true))?;
+            right = right && self.leads_on(*node);
         }
-        let arcs = self.arcs.inner.len().saturating_add(self.arcs.ends.len());
-        let leads = arcs.saturating_add(self.waiting.len());
-        ask_for(leads == nodes.len().saturating_mul(2), Wrong::Side)
+        ask_for(right, Wrong::Side)
     }
 
     // Refuses it where anything waits or was put but the root's ask.
     fn check_only_root(&self) -> Result<(), Wrong> {
-        let ask = self.ask_of(NOBODY)?.ok_or(Wrong::Side)?;
-        let root = self.root == first_of(level_of(ask.word(0)));
-        let none = self.arcs.inner.is_empty() && self.arcs.ends.is_empty();
-        ask_for(root && none && self.waiting.len() == 1, Wrong::Side)
+        match ask_of(self.waiting, NOBODY) {
+            Ok(Some(ask)) => {
+                let root = self.root == first_of(level_of(ask.word(0)));
+                ask_for(root && self.leads() == 1, Wrong::Side)
+            }
+            _ => Err(Wrong::Side),
+        }
+    }
+
+    // Refuses it where what has numbers isn't as it has to be.
+    fn check_numbered(
+        &self,
+        alloc: Global,
+        newest: Record<'a>,
+        taken: Record<'a>,
+        places: usize,
+    ) -> Result<(), Wrong> {
+        let nodes = numbered(alloc, self.root, self.arcs.inner)?;
+        check_numbers(self.root, nodes.as_slice(), node_of(newest))
+            .and(self.check_sides(nodes.as_slice()))
+            .and(check_answered(taken, newest, self.arcs.inner))
+            .and(self.check_newest(newest, places))
     }
 
     // Refuses it where something is at hand that isn't as it has to be.
     fn check_place(&self, alloc: Global, places: usize) -> Result<(), Wrong> {
-        let Some(newest) = self.newest else {
-            return self.check_only_root();
-        };
-        let nodes = self.numbered(alloc)?;
-        self.check_numbers(nodes.as_slice(), newest)?;
-        self.check_sides(nodes.as_slice())?;
-        self.check_answered(newest)?;
-        self.check_newest(newest, places)
+        match (self.newest, self.taken) {
+            (None, _) => self.check_only_root(),
+            (Some(newest), Some(taken)) => self.check_numbered(alloc, newest, taken, places),
+            _ => Err(Wrong::Waiting),
+        }
     }
 
-    // Refuses arcs that aren't in the order of their files, or of which it isn't known whether one leads to 1.
-    fn check_arcs(&self, has_one: bool) -> Result<(), Wrong> {
-        let inner = are_inner(self.arcs.inner, self.variables);
-        let ends = are_ends(self.arcs.ends, self.variables);
-        let mut one = false;
-        for arc in self.arcs.ends {
-            if let Some(true) = truth_of(arc.target) {
-                one = true;
-            }
-        }
-        ask_for(inner && ends && one == has_one, Wrong::Arcs)
+    // Refuses it where it isn't as it has to be beside the words of a checkpoint, or stands for another table.
+    fn check(&self, alloc: Global, wanted: &[bool], point: Point<'_>) -> Result<(), Wrong> {
+        check_arcs(self.arcs, self.variables, point.has(1))
+            .and(self.check_asks())
+            .and(self.check_hands(point))
+            .and(self.check_place(alloc, wanted.len()))
+            .and(self.check_table(wanted))
     }
 }
 
@@ -305,31 +368,21 @@ pub(crate) fn check_top_down(
     task: &TopDownTask,
     operands: Operands<'_>,
     wanted: &[bool],
-    point: &Point,
+    point: Point<'_>,
     bench: &Bench,
 ) -> Result<(), Wrong> {
     check_task(task, point)?;
-    let inner = arcs_of(alloc, bench.file(task.inner), point.carried(16))?;
-    let ends = arcs_of(alloc, bench.file(task.ends), point.carried(19))?;
+    let lists = ArcLists::of(alloc, point.carried(16), point.carried(19), bench)?;
     let waiting = point.waiting(alloc, 0, 8, bench)?;
     let picture = Picture {
         variables: task.variables,
         meant: task.meant,
         operands,
-        arcs: Arcs {
-            inner: inner.as_slice(),
-            ends: ends.as_slice(),
-        },
+        arcs: lists.arcs(),
         waiting: waiting.as_slice(),
-        root: point.maybe(20)?.ok_or(Wrong::Missing)?,
-        newest: point.maybe_record(22, 8)?,
-        taken: point.maybe_record(31, 8)?,
+        root: point.carried(21),
+        newest: point.maybe_record(22, 8),
+        taken: point.maybe_record(31, 8),
     };
-    picture.check_arcs(point.has(1, 0)?)?;
-    picture.check_asks()?;
-    picture.check_hand(operands.first, point.maybe(4)?)?;
-    picture.check_hand(operands.second, point.maybe(8)?)?;
-    picture.check_hand(operands.third, point.maybe(12)?)?;
-    picture.check_place(alloc, wanted.len())?;
-    picture.check_table(wanted)
+    picture.check(alloc, wanted, point)
 }

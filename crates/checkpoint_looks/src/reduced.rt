@@ -1,8 +1,8 @@
 //! Whether the checkpoint of a reduction stands for the table of its step.
-use crate::diagrams::{Arcs, Assignment, NodeList, PlainArc, level_of, truth_of};
-use crate::words::{Point, Record, Wrong, ask_for};
+use crate::diagrams::{Arcs, Assignment, NodeList, PlainArc, level_of, side_of, truth_of};
+use crate::words::{Form, Point, Record, Wrong, ask_for, check_equal};
+use case_lives::{ENDS, INNER, OUT};
 use shelf_memory::Bench;
-use shelf_model::FileNo;
 use std::alloc::Global;
 
 /// How many words an item of the lists has: an arc of the queue, a row, and a name.
@@ -18,21 +18,31 @@ const NODE: usize = 24;
 /// From here sources are counted down in the queue and in names.
 const LAST: u64 = 0x7fff_ffff_ffff_ffff;
 
-/// The reduction of a step: its files, the number of variables and the root.
-#[derive(Clone, Copy)]
-pub(crate) struct ReduceTask {
-    pub(crate) variables: u32,
-    pub(crate) root: u64,
-    pub(crate) inner: FileNo,
-    pub(crate) ends: FileNo,
-    pub(crate) out: FileNo,
-}
+/// The form of its words.
+const WORDS: &Form = &Form {
+    sweep: 1,
+    tables: 5,
+    files: &[(4, INNER), (7, ENDS), (10, OUT)],
+    flags: &[
+        (13, 5),
+        (15, 1),
+        (17, 1),
+        (19, 4),
+        (21, 2),
+        (24, 0),
+        (25, 1),
+        (27, 3),
+    ],
+    words: 31,
+};
+
+/// The root of the diagram.
+const ROOT: u64 = 0;
 
 /// A diagram that isn't reduced, by all its arcs, and the canonical one of its table.
 #[derive(Clone, Copy)]
 pub(crate) struct Diagram<'a> {
     variables: u32,
-    root: u64,
     arcs: Arcs<'a>,
     canon: &'a NodeList,
 }
@@ -45,9 +55,10 @@ impl<'a> Diagram<'a> {
                 variables: self.variables,
                 place,
             };
-            let wanted = self.arcs.value(pointer, at)?;
-            let is = self.canon.value(canonical, at)?;
-            ask_for(is == wanted, Wrong::Value)?;
+            check_equal(
+                self.canon.value(canonical, at),
+                self.arcs.value(pointer, at),
+            )?;
         }
         Ok(())
     }
@@ -90,31 +101,43 @@ enum Doing {
 }
 
 // The pair of the last row that has a number.
-fn pair_of(point: &Point) -> Result<Option<(u64, u64)>, Wrong> {
-    let there = point.has(21, 2)?;
+fn pair_of(point: Point<'_>) -> Option<(u64, u64)> {
     let pair = (point.carried(22), point.carried(23));
-    Ok(if there { Some(pair) } else { None })
+    point.has(21).then_some(pair)
 }
 
 // What the words from 13 to 26 say.
-fn doing_of(point: &Point) -> Result<Doing, Wrong> {
-    let collects = point.has(13, 5)?;
-    let numbers = point.has(19, 4)?;
-    let forwards = point.has(24, 0)?;
-    ask_for(!point.has(25, 1)?, Wrong::Flag)?;
-    match (collects, numbers, forwards) {
+fn doing_of(point: Point<'_>) -> Result<Doing, Wrong> {
+    match (point.has(13), point.has(19), point.has(24)) {
         (false, false, false) => Ok(Doing::Nothing),
         (true, false, false) => Ok(Doing::Collects {
             source: point.carried(14),
-            low: point.maybe(15)?,
-            high: point.maybe(17)?,
+            low: point.maybe(15),
+            high: point.maybe(17),
         }),
         (false, true, false) => Ok(Doing::Numbers {
             count: point.carried(20),
-            last: pair_of(point)?,
+            last: pair_of(point),
         }),
         (false, false, true) => Ok(Doing::Forwards),
         _ => Err(Wrong::Flag),
+    }
+}
+
+/// What waits: arcs in the queue, rows, and names.
+#[derive(Drop)]
+struct Lists<'a> {
+    queue: Vec<Record<'a>>,
+    rows: Vec<Record<'a>>,
+    names: Vec<Record<'a>>,
+}
+
+impl<'a> Lists<'a> {
+    fn of(alloc: Global, point: Point<'_>, bench: &'a Bench) -> Result<Lists<'a>, Wrong> {
+        let queue = point.waiting(alloc, 0, ARC, bench)?;
+        let rows = point.waiting(alloc, 3, ROW, bench)?;
+        let names = point.waiting(alloc, 4, NAME, bench)?;
+        Ok(Lists { queue, rows, names })
     }
 }
 
@@ -124,68 +147,78 @@ struct Picture<'a> {
     diagram: Diagram<'a>,
     level: u64,
     doing: Doing,
-    queue: &'a [Record],
-    rows: &'a [Record],
-    names: &'a [Record],
+    queue: &'a [Record<'a>],
+    rows: &'a [Record<'a>],
+    names: &'a [Record<'a>],
 }
 
 // The source of an arc of the queue or of a name, whose first word counts it down.
-fn counted_down(record: &Record) -> u64 {
+fn counted_down(record: Record<'_>) -> u64 {
     LAST.wrapping_sub(record.word(0))
 }
 
 // The side of an arc of the queue.
-fn queued_side(record: &Record) -> u64 {
+fn queued_side(record: Record<'_>) -> u64 {
     counted_down(record).wrapping_mul(2) | record.word(1)
 }
 
-// Refuses a checkpoint whose words name something else.
-fn check_task(task: &ReduceTask, point: &Point) -> Result<(), Wrong> {
-    point.check_front(1, 5)?;
-    let arcs = point.names(4, task.inner) && point.names(7, task.ends);
-    let variables = point.carried(0) == u64::from(task.variables);
-    let root = point.carried(2) == task.root;
-    ask_for(
-        arcs && variables && root && point.names(10, task.out),
-        Wrong::Task,
-    )?;
-    point.check_no_runs(1)?;
-    point.check_no_runs(2)?;
-    point.check_unused(31)
+// Refuses a checkpoint whose words name something else than the reduction of a diagram of n variables.
+fn check_task(n: u32, point: Point<'_>) -> Result<(), Wrong> {
+    point
+        .check_form(WORDS)
+        .and(point.check_word(0, u64::from(n)))
+        .and(point.check_word(2, ROOT))
+        .and(point.check_word(25, 0))
+        .and(point.check_no_runs(1))
+        .and(point.check_no_runs(2))
+}
+
+// How many arcs of the queue are of that side.
+fn queued(queue: &[Record<'_>], side: u64) -> u64 {
+    let mut count = 0u64;
+    for record in queue {
+        if queued_side(*record) == side {
+            count = count.saturating_add(1);
+        }
+    }
+    count
+}
+
+// How many arcs of the queue are of these.
+fn queued_of(queue: &[Record<'_>], arcs: &[PlainArc]) -> u64 {
+    let mut count = 0u64;
+    for arc in arcs {
+        count = count.saturating_add(queued(queue, arc.side()));
+    }
+    count
+}
+
+// How many names are of that source.
+fn named(names: &[Record<'_>], source: u64) -> u64 {
+    let mut count = 0u64;
+    for name in names {
+        if counted_down(*name) == source {
+            count = count.saturating_add(1);
+        }
+    }
+    count
+}
+
+// How many rows are of that source.
+fn in_rows(rows: &[Record<'_>], source: u64) -> u64 {
+    let mut count = 0u64;
+    for row in rows {
+        if row.word(2) == source {
+            count = count.saturating_add(1);
+        }
+    }
+    count
 }
 
 impl<'a> Picture<'a> {
-    // How many arcs of the queue are of that side.
-    fn queued(&self, side: u64) -> u64 {
-        let mut count = 0u64;
-        for record in self.queue {
-            if queued_side(record) == side {
-                count = count.saturating_add(1);
-            }
-        }
-        count
-    }
-
-    // How many names are of that source.
-    fn named(&self, source: u64) -> u64 {
-        let mut count = 0u64;
-        for name in self.names {
-            if counted_down(name) == source {
-                count = count.saturating_add(1);
-            }
-        }
-        count
-    }
-
     // How many rows and names are of that source.
     fn closed(&self, source: u64) -> u64 {
-        let mut count = self.named(source);
-        for row in self.rows {
-            if row.word(2) == source {
-                count = count.saturating_add(1);
-            }
-        }
-        count
+        in_rows(self.rows, source).saturating_add(named(self.names, source))
     }
 
     // Whether the arc is of the source that is collected, and its side is known.
@@ -201,11 +234,10 @@ impl<'a> Picture<'a> {
 
     // Whether the names of the level at hand, or the level itself, are done with.
     fn is_finished(&self, level: u64) -> bool {
-        let done = match self.doing {
-            Doing::Nothing => true,
-            _ => false,
-        };
-        level > self.level || level == self.level && done
+        match self.doing {
+            Doing::Nothing => self.level <= level,
+            _ => self.level < level,
+        }
     }
 
     // Whether an arc of the level at hand is in one place: a source that is collected, an arc of the queue, a row or a
@@ -220,7 +252,7 @@ impl<'a> Picture<'a> {
 
     // Whether an arc to the level at hand was forwarded or is to be, while names are forwarded.
     fn is_forwarded(&self, target: u64, unread: bool, queued: u64) -> bool {
-        unread && self.named(target) == 1 || queued == 1
+        unread && named(self.names, target) == 1 || queued == 1
     }
 
     // Whether an arc of a level above that at hand is unread until its target's final pointer is known.
@@ -238,18 +270,18 @@ impl<'a> Picture<'a> {
 
     // Whether an arc is where it has to be: done with, collected, in the queue, or unread.
     fn is_placed(&self, arc: &PlainArc, unread: bool) -> bool {
-        let queued = self.queued(arc.side());
+        let queued = queued(self.queue, arc.side());
         let closed = self.closed(arc.source);
         let noted = u64::from(unread).saturating_add(u64::from(self.is_noted(arc)));
         let places = queued.saturating_add(closed).saturating_add(noted);
         let level = level_of(arc.source);
         if self.is_finished(level) {
-            return places == 0;
+            places == 0
+        } else if level == self.level {
+            self.is_at_hand(places, closed)
+        } else {
+            places == 1 && closed == 0 && self.waits(arc.target, unread, queued)
         }
-        if level == self.level {
-            return self.is_at_hand(places, closed);
-        }
-        places == 1 && closed == 0 && self.waits(arc.target, unread, queued)
     }
 
     // Refuses arcs of which one isn't where it has to be; the first ones, so many, are unread.
@@ -265,15 +297,12 @@ impl<'a> Picture<'a> {
 
     // Refuses arcs of the queue that aren't in the diagram, have another pointer than the final one of their target, or
     // come before the last one that was taken.
-    fn check_queue(&self, last: Option<Record>) -> Result<(), Wrong> {
+    fn check_queue(&self, last: Option<Record<'_>>) -> Result<(), Wrong> {
         for record in self.queue {
-            let later = match &last {
-                Some(last) => !record.precedes(last, ARC),
-                None => true,
-            };
-            ask_for(later && record.word(1) <= 1, Wrong::Waiting)?;
-            self.diagram
-                .check_side(record.word(2), queued_side(record))?;
+            let (pointer, side) = (record.word(2), queued_side(*record));
+            ask_for(may_follow(last, *record), Wrong::Waiting).and(
+                self.diagram.check_side(pointer, side),
+            )?;
         }
         Ok(())
     }
@@ -286,9 +315,10 @@ impl<'a> Picture<'a> {
     // Refuses names that aren't of the level at hand, or have another pointer than the final one of their source.
     fn check_names(&self) -> Result<(), Wrong> {
         for name in self.names {
-            let source = counted_down(name);
-            ask_for(self.is_closed(source), Wrong::Waiting)?;
-            self.diagram.check_final(name.word(1), source)?;
+            let source = counted_down(*name);
+            ask_for(self.is_closed(source), Wrong::Waiting).and(
+                self.diagram.check_final(name.word(1), source),
+            )?;
         }
         Ok(())
     }
@@ -305,15 +335,28 @@ impl<'a> Picture<'a> {
         }
     }
 
-    // Refuses rows that aren't of the level at hand, have other pointers than the final ones of their sides, or come
+    // Refuses another pointer than the final one of a side of a source, where one is known.
+    fn check_known_side(&self, known: Option<u64>, source: u64, high: bool) -> Result<(), Wrong> {
+        match known {
+            Some(pointer) => self.diagram.check_side(pointer, side_of(source, high)),
+            None => Ok(()),
+        }
+    }
+
+    // Refuses a row that isn't of the level at hand, has other pointers than the final ones of its sides, or comes
     // before the last one that got a number.
+    fn check_row(&self, row: Record<'_>) -> Result<(), Wrong> {
+        let (low, high, source) = (row.word(0), row.word(1), row.word(2));
+        let waits = self.is_closed(source) && self.may_wait(low, high);
+        ask_for(waits && low != high, Wrong::Waiting)
+            .and(self.diagram.check_side(low, side_of(source, false)))
+            .and(self.diagram.check_side(high, side_of(source, true)))
+    }
+
+    // Refuses rows of which one is to be refused.
     fn check_rows(&self) -> Result<(), Wrong> {
         for row in self.rows {
-            let (low, high, source) = (row.word(0), row.word(1), row.word(2));
-            let waits = self.is_closed(source) && self.may_wait(low, high);
-            ask_for(waits && low != high, Wrong::Waiting)?;
-            self.diagram.check_side(low, source.wrapping_mul(2))?;
-            self.diagram.check_side(high, source.wrapping_mul(2) | 1)?;
+            self.check_row(*row)?;
         }
         Ok(())
     }
@@ -325,15 +368,9 @@ impl<'a> Picture<'a> {
         };
         let some = low.is_some() || high.is_some();
         let fits = level_of(source) == self.level && self.closed(source) == 0;
-        ask_for(some && fits, Wrong::Hand)?;
-        if let Some(pointer) = low {
-            self.diagram.check_side(pointer, source.wrapping_mul(2))?;
-        }
-        if let Some(pointer) = high {
-            self.diagram
-                .check_side(pointer, source.wrapping_mul(2) | 1)?;
-        }
-        Ok(())
+        ask_for(some && fits, Wrong::Hand)
+            .and(self.check_known_side(low, source, false))
+            .and(self.check_known_side(high, source, true))
     }
 
     // How many nodes have to be kept.
@@ -360,18 +397,17 @@ impl<'a> Picture<'a> {
 
     // Refuses as many nodes as there haven't to be, or another last row than that of the last one.
     fn check_count(&self, kept: u64) -> Result<(), Wrong> {
-        ask_for(kept == self.nodes_wanted(), Wrong::Nodes)?;
         let ends = match self.doing {
             Doing::Numbers { count, last } => self.ends_with(last, count, kept),
             _ => true,
         };
-        ask_for(ends, Wrong::Number)
+        ask_for(kept == self.nodes_wanted(), Wrong::Nodes).and(ask_for(ends, Wrong::Number))
     }
 
     // Refuses another final pointer of the root, once its level is finished.
     fn check_known(&self, known: u64) -> Result<(), Wrong> {
-        if self.is_finished(level_of(self.diagram.root)) {
-            self.diagram.check_final(known, self.diagram.root)
+        if self.is_finished(level_of(ROOT)) {
+            self.diagram.check_final(known, ROOT)
         } else {
             Ok(())
         }
@@ -379,28 +415,33 @@ impl<'a> Picture<'a> {
 
     // Refuses items that are of no arc.
     fn check_total(&self) -> Result<(), Wrong> {
-        let mut queued = 0u64;
-        for arc in self.diagram.arcs.inner {
-            queued = queued.saturating_add(self.queued(arc.side()));
-        }
-        for arc in self.diagram.arcs.ends {
-            queued = queued.saturating_add(self.queued(arc.side()));
-        }
-        ask_for(queued == self.queue.len() as u64, Wrong::Waiting)
+        let inner = queued_of(self.queue, self.diagram.arcs.inner);
+        let ends = queued_of(self.queue, self.diagram.arcs.ends);
+        let all = inner.saturating_add(ends) == self.queue.len() as u64;
+        ask_for(all, Wrong::Waiting)
     }
 
     // Refuses lists that aren't those of the diagram at that place.
-    fn check_lists(&self, point: &Point) -> Result<(), Wrong> {
-        self.check_arcs(self.diagram.arcs.inner, point.carried(6))?;
-        self.check_arcs(self.diagram.arcs.ends, point.carried(9))?;
-        self.check_total()?;
-        self.check_queue(point.maybe_record(27, ARC)?)?;
-        self.check_names()?;
-        self.check_rows()?;
-        self.check_hand()?;
-        self.check_known(point.carried(3))?;
-        self.check_count(point.carried(12))
+    fn check_lists(&self, point: Point<'_>) -> Result<(), Wrong> {
+        self.check_arcs(self.diagram.arcs.inner, point.carried(6))
+            .and(self.check_arcs(self.diagram.arcs.ends, point.carried(9)))
+            .and(self.check_total())
+            .and(self.check_queue(point.maybe_record(27, ARC)))
+            .and(self.check_names())
+            .and(self.check_rows())
+            .and(self.check_hand())
+            .and(self.check_known(point.carried(3)))
+            .and(self.check_count(point.carried(12)))
     }
+}
+
+// Whether an arc of the queue is of a side, and comes no earlier than the last one that was taken.
+fn may_follow(last: Option<Record<'_>>, record: Record<'_>) -> bool {
+    let later = match last {
+        Some(last) => !record.precedes(last, ARC),
+        None => true,
+    };
+    later && record.word(1) <= 1
 }
 
 // Refuses nodes that aren't the first ones of the canonical file.
@@ -410,35 +451,31 @@ fn check_nodes(kept: u64, made: &[u8], canon: &[u8]) -> Result<(), Wrong> {
     ask_for(nodes.is_some() && nodes == canon.get(0..end), Wrong::Nodes)
 }
 
-/// Refuses a checkpoint that doesn't stand for the reduction of the arcs that stand in the files of the task, whose
-/// canonical file has these bytes and nodes.
+/// Refuses a checkpoint that doesn't stand for the reduction of arcs of n variables, whose canonical file has these
+/// bytes and nodes.
 pub(crate) fn check_reduced(
     alloc: Global,
-    task: &ReduceTask,
+    n: u32,
     arcs: Arcs<'_>,
     bytes: &[u8],
     canon: &NodeList,
-    point: &Point,
+    point: Point<'_>,
     bench: &Bench,
 ) -> Result<(), Wrong> {
-    check_task(task, point)?;
-    check_nodes(point.carried(12), bench.file(task.out), bytes)?;
-    let queue = point.waiting(alloc, 0, ARC, bench)?;
-    let rows = point.waiting(alloc, 3, ROW, bench)?;
-    let names = point.waiting(alloc, 4, NAME, bench)?;
-    let diagram = Diagram {
-        variables: task.variables,
-        root: task.root,
-        arcs,
-        canon,
-    };
+    check_task(n, point).and(check_nodes(point.carried(12), bench.file(OUT), bytes))?;
+    let doing = doing_of(point)?;
+    let lists = Lists::of(alloc, point, bench)?;
     let picture = Picture {
-        diagram,
+        diagram: Diagram {
+            variables: n,
+            arcs,
+            canon,
+        },
         level: point.carried(1),
-        doing: doing_of(point)?,
-        queue: queue.as_slice(),
-        rows: rows.as_slice(),
-        names: names.as_slice(),
+        doing,
+        queue: lists.queue.as_slice(),
+        rows: lists.rows.as_slice(),
+        names: lists.names.as_slice(),
     };
     picture.check_lists(point)
 }

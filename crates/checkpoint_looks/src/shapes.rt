@@ -62,21 +62,12 @@ impl Shape {
         }
     }
 
-    // Puts the arcs that lead to a node of a level.
-    fn push_arcs_to(self, level: u64, number: u64, into: &mut Vec<u8>) -> Result<(), AllocError> {
+    // Puts the arcs that lead to the nodes of a level. As the sides above ascend, so do the nodes where they lead.
+    fn push_level(self, level: u64, into: &mut Vec<u8>) -> Result<(), AllocError> {
         let above = level.saturating_sub(1);
         for side in 0..self.sides(above) {
-            if self.below(side) == number {
-                push_arc(into, above, side, first_of(level).wrapping_add(number))?;
-            }
-        }
-        Ok(())
-    }
-
-    // Puts those that lead to all nodes of a level.
-    fn push_level(self, level: u64, into: &mut Vec<u8>) -> Result<(), AllocError> {
-        for number in 0..self.sides(level) / 2 {
-            self.push_arcs_to(level, number, into)?;
+            let target = first_of(level).wrapping_add(self.below(side));
+            push_arc(into, above, side, target)?;
         }
         Ok(())
     }

@@ -45,6 +45,14 @@ pub(crate) fn ask_for(holds: bool, wrong: Wrong) -> Result<(), Wrong> {
     if holds { Ok(()) } else { Err(wrong) }
 }
 
+/// Refuses two values that differ, or of which one isn't there.
+pub(crate) fn check_equal(
+    one: Result<bool, Wrong>,
+    other: Result<bool, Wrong>,
+) -> Result<(), Wrong> {
+    ask_for(one? == other?, Wrong::Value)
+}
+
 /// Puts an item behind others.
 pub(crate) fn put<T: Drop>(into: &mut Vec<T>, item: T) -> Result<(), Wrong> {
     match into.push(item) {
@@ -72,39 +80,37 @@ pub(crate) const SLOTS: usize = 64;
 /// The bytes of a record of a run.
 const RECORD: usize = 64;
 
-/// The words of bytes, the highest byte of each first.
-pub(crate) fn words_of(alloc: Global, bytes: &[u8]) -> Result<Vec<u64>, Wrong> {
-    let mut words = Vec::new(alloc);
-    for piece in bytes.chunks_exact(8) {
-        let mut eight = [0u8; 8];
-        eight.copy_from_slice(piece);
-        put(&mut words, u64::from_be_bytes(eight))?;
+/// The word of bytes at a place, counted in words, the highest byte first; or 0 behind their end.
+pub(crate) fn word_in(bytes: &[u8], place: usize) -> u64 {
+    let first = place.saturating_mul(8);
+    let mut eight = [0u8; 8];
+    if let Some(word) = bytes.get(first..first.saturating_add(8)) {
+        eight.copy_from_slice(word);
     }
-    Ok(words)
+    u64::from_be_bytes(eight)
 }
 
-// The word at a place, or 0 behind the end.
-fn word_at(words: &[u64], place: usize) -> u64 {
-    match words.get(place) {
-        Some(word) => *word,
-        None => 0,
+/// Makes the word of bytes at a place one with another last digit.
+pub(crate) fn flip(bytes: &mut [u8], place: usize) {
+    if let Some(byte) = bytes.get_mut(place.saturating_mul(8).saturating_add(7)) {
+        *byte ^= 1;
     }
 }
 
-/// A record of a run: eight words.
+/// A record of a run, or some words of a checkpoint, by their bytes.
 #[derive(Clone, Copy)]
-pub(crate) struct Record {
-    pub(crate) w: [u64; 8],
+pub(crate) struct Record<'a> {
+    bytes: &'a [u8],
 }
 
-impl Record {
+impl<'a> Record<'a> {
     /// Its word at a place, or 0 behind its end.
     pub(crate) fn word(&self, place: usize) -> u64 {
-        word_at(&self.w, place)
+        word_in(self.bytes, place)
     }
 
     /// Whether the first words of it, so many, come before those of another one.
-    pub(crate) fn precedes(&self, other: &Record, words: usize) -> bool {
+    pub(crate) fn precedes(&self, other: Record<'_>, words: usize) -> bool {
         for place in 0..words {
             let (mine, its) = (self.word(place), other.word(place));
             if mine != its {
@@ -123,36 +129,39 @@ pub(crate) struct Slot {
     pub(crate) end: u64,
 }
 
-/// A checkpoint as its words.
-#[derive(Drop)]
-pub(crate) struct Point {
-    words: Vec<u64>,
+/// What the words of the checkpoints of a kind of sweep have to be.
+pub(crate) struct Form {
+    /// The number of the sweep in its step, and that of its tables.
+    pub(crate) sweep: u64,
+    pub(crate) tables: u64,
+    /// The files that they name, and from which places on.
+    pub(crate) files: &'static [(usize, FileNo)],
+    /// The places of words that say whether others are there, and how many these are.
+    pub(crate) flags: &'static [(usize, usize)],
+    /// How many words the sweep keeps.
+    pub(crate) words: usize,
 }
 
-impl Point {
+/// A checkpoint, by its bytes.
+#[derive(Clone, Copy)]
+pub(crate) struct Point<'a> {
+    pub(crate) bytes: &'a [u8],
+}
+
+impl<'a> Point<'a> {
     /// The last gated checkpoint of the step.
-    pub(crate) fn last_of(alloc: Global, bench: &Bench) -> Result<Point, Wrong> {
-        let gated = bench.file(GATE).len();
-        let end = gated.saturating_mul(POINT_SIZE);
+    pub(crate) fn last_of(bench: &'a Bench) -> Result<Point<'a>, Wrong> {
+        let end = bench.file(GATE).len().saturating_mul(POINT_SIZE);
         let start = end.saturating_sub(POINT_SIZE);
         match bench.file(POINTS).get(start..end) {
-            Some(bytes) if gated > 0 => Ok(Point {
-                words: words_of(alloc, bytes)?,
-            }),
+            Some(bytes) if start < end => Ok(Point { bytes }),
             _ => Err(Wrong::Missing),
         }
     }
 
     // The word at a place from the front of the checkpoint on.
     fn word(&self, place: usize) -> u64 {
-        word_at(self.words.as_slice(), place)
-    }
-
-    /// Makes the word at a place, from the front of the checkpoint on, one with another last digit.
-    pub(crate) fn flip(&mut self, place: usize) {
-        if let Some(word) = self.words.as_mut_slice().get_mut(place) {
-            *word ^= 1;
-        }
+        word_in(self.bytes, place)
     }
 
     /// The word that the sweep keeps at a place.
@@ -160,8 +169,13 @@ impl Point {
         self.word(place.saturating_add(CARRIED_AT))
     }
 
-    /// Refuses it where its front isn't that of such a sweep of the step.
-    pub(crate) fn check_front(&self, sweep: u64, tables: u64) -> Result<(), Wrong> {
+    /// Refuses it where the sweep keeps another word at a place than that one, which its task has.
+    pub(crate) fn check_word(&self, place: usize, word: u64) -> Result<(), Wrong> {
+        ask_for(self.carried(place) == word, Wrong::Task)
+    }
+
+    // Refuses it where its front isn't that of such a sweep of the step.
+    fn check_front(&self, sweep: u64, tables: u64) -> Result<(), Wrong> {
         let is_of = self.word(0) == u64::from(STEP) && self.word(1) == sweep;
         let parts = self.word(3) >= 3 && self.word(3) <= 1 << 32;
         let few = self.word(2) < 1 << 62;
@@ -169,10 +183,18 @@ impl Point {
         ask_for(front, Wrong::Front)
     }
 
-    /// Whether it names that file from a place on.
-    pub(crate) fn names(&self, place: usize, file: FileNo) -> bool {
+    // Whether it names that file from a place on.
+    fn names(&self, place: usize, file: FileNo) -> bool {
         let part = self.carried(place.saturating_add(1)) == file.part;
         part && self.carried(place) == u64::from(file.step)
+    }
+
+    // Refuses it where it names another file from one of these places on.
+    fn check_names(&self, files: &[(usize, FileNo)]) -> Result<(), Wrong> {
+        for (place, file) in files {
+            ask_for(self.names(*place, *file), Wrong::Task)?;
+        }
+        Ok(())
     }
 
     // Whether so many words are 0, from the front of the checkpoint on.
@@ -185,8 +207,8 @@ impl Point {
         true
     }
 
-    /// Refuses it where a word isn't 0 that the sweep keeps from a place on.
-    pub(crate) fn check_unused(&self, from: usize) -> Result<(), Wrong> {
+    // Refuses it where a word isn't 0 that the sweep keeps from a place on.
+    fn check_unused(&self, from: usize) -> Result<(), Wrong> {
         let front = from.saturating_add(CARRIED_AT);
         let count = TABLES_AT.saturating_sub(front);
         ask_for(self.is_zero(front, count), Wrong::Unused)
@@ -198,36 +220,48 @@ impl Point {
         ask_for(self.is_zero(front, TABLE_WORDS), Wrong::Run)
     }
 
-    /// Whether the words behind that one, so many, are there: then it is 1, and else it and they are 0.
-    pub(crate) fn has(&self, flag: usize, words: usize) -> Result<bool, Wrong> {
-        let there = self.carried(flag) == 1;
+    /// Whether the words behind that one are there.
+    pub(crate) fn has(&self, flag: usize) -> bool {
+        self.carried(flag) == 1
+    }
+
+    // Whether a word is 1, or it and the words behind it, so many, are 0.
+    fn is_flag(&self, flag: usize, words: usize) -> bool {
         let front = flag.saturating_add(CARRIED_AT);
-        let none = self.is_zero(front, words.saturating_add(1));
-        ask_for(there || none, Wrong::Flag)?;
-        Ok(there)
+        self.has(flag) || self.is_zero(front, words.saturating_add(1))
+    }
+
+    // Refuses it where one of these words isn't 1, and it and the words behind it, so many, aren't 0.
+    fn check_flags(&self, flags: &[(usize, usize)]) -> Result<(), Wrong> {
+        for (flag, words) in flags {
+            ask_for(self.is_flag(*flag, *words), Wrong::Flag)?;
+        }
+        Ok(())
+    }
+
+    /// Refuses it where its words haven't that form.
+    pub(crate) fn check_form(&self, form: &Form) -> Result<(), Wrong> {
+        self.check_front(form.sweep, form.tables)
+            .and(self.check_names(form.files))
+            .and(self.check_flags(form.flags))
+            .and(self.check_unused(form.words))
     }
 
     /// The word behind that one, where it is there.
-    pub(crate) fn maybe(&self, flag: usize) -> Result<Option<u64>, Wrong> {
-        let there = self.has(flag, 1)?;
+    pub(crate) fn maybe(&self, flag: usize) -> Option<u64> {
         let word = self.carried(flag.saturating_add(1));
-        Ok(if there { Some(word) } else { None })
+        self.has(flag).then_some(word)
     }
 
     /// So many words behind that one as a record, where they are there.
-    pub(crate) fn maybe_record(&self, flag: usize, words: usize) -> Result<Option<Record>, Wrong> {
-        if !self.has(flag, words)? {
-            return Ok(None);
+    pub(crate) fn maybe_record(&self, flag: usize, words: usize) -> Option<Record<'a>> {
+        let front = flag.saturating_add(CARRIED_AT).saturating_add(1);
+        let first = front.saturating_mul(8);
+        let end = words.saturating_mul(8).saturating_add(first);
+        match self.bytes.get(first..end) {
+            Some(bytes) => self.has(flag).then_some(Record { bytes }),
+            None => None,
         }
-        let mut record = Record { w: [0; 8] };
-        let mut place = flag;
-        for there in record.w.iter_mut() {
-            place = place.saturating_add(1);
-            if place <= flag.saturating_add(words) {
-                *there = self.carried(place);
-            }
-        }
-        Ok(Some(record))
     }
 
     /// The run in a slot of a table; three words 0 where none stands there.
@@ -241,56 +275,59 @@ impl Point {
         }
     }
 
-    // Whether a run may stand in a table: its part is one of those that were taken behind the files of arcs.
+    // Whether a run may stand in a table: its part is one of those that were taken behind the files of arcs; or whether
+    // none stands there.
     fn may_stand(&self, run: Slot) -> bool {
+        let none = run.part == 0 && run.next == 0 && run.end == 0;
         let taken = run.part >= 5 && run.part < self.word(3);
-        taken && run.next <= run.end && run.end <= 1 << 44
+        none || taken && run.next <= run.end && run.end <= 1 << 44
+    }
+
+    // Puts behind others the records of a run that weren't read, which ascend by so many words.
+    fn add_run<'b>(
+        &self,
+        run: Slot,
+        width: usize,
+        bench: &'b Bench,
+        into: &mut Vec<Record<'b>>,
+    ) -> Result<(), Wrong> {
+        let file = FileNo {
+            step: STEP,
+            part: run.part,
+        };
+        let first = (run.next as usize).saturating_mul(RECORD);
+        let end = (run.end as usize).saturating_mul(RECORD);
+        match bench.file(file).get(first..end) {
+            Some(bytes) if self.may_stand(run) => add_all(bytes, width, into),
+            _ => Err(Wrong::Run),
+        }
     }
 
     /// What waits in the runs of a table, which ascend by so many words: the records from the next one of each on.
-    pub(crate) fn waiting(
+    pub(crate) fn waiting<'b>(
         &self,
         alloc: Global,
         table: usize,
         width: usize,
-        bench: &Bench,
-    ) -> Result<Vec<Record>, Wrong> {
+        bench: &'b Bench,
+    ) -> Result<Vec<Record<'b>>, Wrong> {
         let mut records = Vec::new(alloc);
         for slot in 0..SLOTS {
-            let run = self.slot(table, slot);
-            let empty = run.part == 0 && run.next == 0 && run.end == 0;
-            if !empty {
-                ask_for(self.may_stand(run), Wrong::Run)?;
-                add_run(alloc, run, width, bench, &mut records)?;
-            }
+            self.add_run(self.slot(table, slot), width, bench, &mut records)?;
         }
         Ok(records)
     }
 }
 
-// Puts behind others the records of a run that weren't read, which ascend by so many words.
-fn add_run(
-    alloc: Global,
-    run: Slot,
-    width: usize,
-    bench: &Bench,
-    into: &mut Vec<Record>,
-) -> Result<(), Wrong> {
-    let file = FileNo {
-        step: STEP,
-        part: run.part,
-    };
-    let first = (run.next as usize).saturating_mul(RECORD);
-    let end = (run.end as usize).saturating_mul(RECORD);
-    let bytes = bench.file(file).get(first..end).ok_or(Wrong::Run)?;
-    let words = words_of(alloc, bytes)?;
-    let mut last = Record { w: [0; 8] };
-    for eight in words.as_slice().chunks_exact(8) {
-        let mut record = Record { w: [0; 8] };
-        record.w.copy_from_slice(eight);
-        ask_for(!record.precedes(&last, width), Wrong::Run)?;
+// Puts records behind others, which ascend by so many words.
+fn add_all<'b>(bytes: &'b [u8], width: usize, into: &mut Vec<Record<'b>>) -> Result<(), Wrong> {
+    let mut last = Record { bytes: &[] };
+    let mut ascend = true;
+    for bytes in bytes.chunks_exact(RECORD) {
+        let record = Record { bytes };
+        ascend = ascend && !record.precedes(last, width);
         put(into, record)?;
         last = record;
     }
-    Ok(())
+    ask_for(ascend, Wrong::Run)
 }
