@@ -6,24 +6,27 @@ use file_numbers::STEP_GATE;
 use shelf_memory::Choice;
 use std::test::Fail;
 
-/// A name, a script, and how many steps are committed at a stop of its run, with the drops that are committed together
-/// with the last of them; what was said before, what a list says then, and what the next run says.
+/// A name, a script, how many bytes the gate of steps has as a stop comes, and how many of them the stop keeps; what was
+/// said before, what a list says then, and what the next run says.
 type Halt = (
     &'static str,
     &'static Row,
-    u64,
+    usize,
+    usize,
     &'static [u8],
     &'static [u8],
     &'static [u8],
 );
 
-/// The carry is step 21, behind which two drops stand, and the sum step 30 of 36, behind which drops alone stand, so that
-/// the line ends with its commit; where the carry comes first, it is step 8. Behind the second of the three lines' step 3
-/// two drops end its line.
+/// The carry is step 21, behind which two drops stand, and the sum step 30 of 36, behind which drops alone stand. All
+/// steps from the sixth on are made at once and committed together, with thirty bytes of the gate, of which a stop may keep
+/// any front. Where the carry comes first, it is step 8. Behind the second of the three lines' step 3 two drops end its
+/// line.
 const HALTS: [Halt; 6] = [
     (
         "the sum and the carry at 21 steps",
         &SUM_CARRY,
+        36,
         21,
         b"start 2\n",
         b"",
@@ -32,6 +35,7 @@ const HALTS: [Halt; 6] = [
     (
         "the sum and the carry at 22 steps",
         &SUM_CARRY,
+        36,
         22,
         b"start 2\n",
         b"carry 2\n",
@@ -40,6 +44,7 @@ const HALTS: [Halt; 6] = [
     (
         "the sum and the carry at 30 steps",
         &SUM_CARRY,
+        36,
         30,
         b"start 2\n",
         b"carry 2\n",
@@ -49,6 +54,7 @@ const HALTS: [Halt; 6] = [
         "the sum and the carry at 36 steps",
         &SUM_CARRY,
         36,
+        36,
         b"start 2\n",
         b"carry 2\nsum 3\n",
         b"resume 2 of 2\ndone\n",
@@ -57,14 +63,16 @@ const HALTS: [Halt; 6] = [
         "the dropped carry at 37 steps",
         &CARRY_DROPPED,
         37,
+        37,
         b"start 3\n2: nodes 2\n2: nodes 3\n",
         b"sum 3\n",
         b"resume 3 of 3\ndone\n",
     ),
     (
-        "three lines at 4 steps",
+        "three lines at 6 steps",
         &THREE_LINES,
-        4,
+        6,
+        6,
         b"start 3\n2: nodes 0\n",
         b"z 0\no 0\n",
         b"resume 2 of 3\n4: nodes 2\ndone\n",
@@ -73,13 +81,14 @@ const HALTS: [Halt; 6] = [
 
 #[test]
 fn says_the_answers_of_a_line_behind_its_last_step(rt: HostRuntime) -> Result<(), Fail> {
-    for (name, row, steps, said, listed, rest) in HALTS {
+    for (name, row, bytes, kept, said, listed, rest) in HALTS {
         let acts = [
             Act::Put("script", row.script),
             Act::Put("netlist", row.netlist),
-            Act::FailWhen(STEP_GATE, steps),
+            Act::FailWhen(STEP_GATE, bytes as u64),
             Act::Run(&NET, 7, said),
             Act::Stop(Choice::Present),
+            Act::Replace(STEP_GATE, kept, bytes, b""),
             Act::Run(&LIST, 0, listed),
             Act::Stop(Choice::Firm),
             Act::Run(&NET, 0, rest),
