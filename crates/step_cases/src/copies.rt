@@ -1,17 +1,13 @@
 //! Operators whose table is a constant, that of one operand or its complement, since the other one is a constant or the
 //! same: they make its file without sweeps.
-ghost use Rattle.std.specs.Prelude.{◌≤◌, length};
-ghost use Rattle.step_sweeps.specs.Given.{AreEarlier};
-ghost use Rattle.step_sweeps.specs.Operations.{IsWithin};
-ghost use Rattle.step_cases.specs.declared.steps.TheConstants.{NUMBER, LEAST_ROOM};
-
-use crate::steps::{EMPTY, LEAST_ROOM, ONE, TWO, begun, is_made};
-use case_tables::{FIRST, Random, SECOND, bench_of, operator, product_of};
-use rec_words::Rec;
+use crate::given::Given;
+use crate::steps::{LEAST_ROOM, ONE, TWO, Task, holds, on_first, operator_on};
+use crate::tables::Triple;
+use case_tables::{FIRST, SECOND};
 use shelf_memory::Bench;
-use std::alloc::{AllocError, Global};
+use std::alloc::Global;
 use std::test::Fail;
-use step_sweeps::{StepOperation, make_diagram};
+use step_sweeps::StepOperation;
 use top_down_sweep::OperandFiles;
 
 /// How many tables are operands, of four variables and more.
@@ -20,21 +16,21 @@ const TABLES: u64 = 9;
 /// How many calls a constant's file takes: those for two trailers, a cut, an append and a sync.
 const CONSTANT_CALLS: u64 = 7;
 
-/// The places of a table that depends on each variable.
-const ALL: usize = usize::MAX;
-
 /// So many variables that the diagram of a random table has more nodes than the least room has records.
 const MANY: u32 = 18;
 
+/// Both of two: of one table twice it is that table.
+const BOTH: u32 = 0b1000;
+
 /// What stands beside a table, and on which side.
-#[derive(Clone, Copy, Debug, PartialEq, Eq)]
+#[derive(Clone, Copy)]
 enum Beside {
     ConstantLeft(bool),
     ConstantRight(bool),
     Same,
 }
 
-const EACH: [Beside; 5] = [
+const EACH: &[Beside] = &[
     Beside::ConstantLeft(false),
     Beside::ConstantLeft(true),
     Beside::ConstantRight(false),
@@ -44,9 +40,7 @@ const EACH: [Beside; 5] = [
 
 impl Beside {
     /// The files of both, where that of the table is the first and that of the constant the second.
-    fn operands(self) -> OperandFiles
-        ensures { AreEarlier NUMBER result }
-    {
+    fn operands(self) -> OperandFiles {
         match self {
             Beside::ConstantLeft(_) => OperandFiles {
                 first: SECOND,
@@ -74,23 +68,12 @@ impl Beside {
         digits & place != 0
     }
 
+    /// The constant, or 0 where none stands there.
     fn constant(self) -> bool {
-        self == Beside::ConstantLeft(true) || self == Beside::ConstantRight(true)
-    }
-}
-
-// What an operator makes of a table and of what stands beside it.
-fn made_of(
-    alloc: Global,
-    digits: u32,
-    beside: Beside,
-    f: &[bool],
-    constant: &[bool],
-) -> Result<Vec<bool>, AllocError> {
-    match beside {
-        Beside::ConstantLeft(_) => product_of(alloc, digits, constant, f),
-        Beside::ConstantRight(_) => product_of(alloc, digits, f, constant),
-        Beside::Same => product_of(alloc, digits, f, f),
+        match self {
+            Beside::ConstantLeft(constant) | Beside::ConstantRight(constant) => constant,
+            Beside::Same => false,
+        }
     }
 }
 
@@ -108,33 +91,15 @@ pub(crate) fn complement_calls(bench: &Bench) -> u64 {
     records.div_ceil(85).wrapping_add(read).wrapping_add(6)
 }
 
-/// A table's file is made with one turn for each node and one more, no part taken, and so many calls.
-pub(crate) fn is_unswept(
-    alloc: Global,
-    operation: StepOperation,
-    n: u32,
-    operands: OperandFiles,
-    wanted: &[bool],
-    calls: u64,
-    room: &mut [Rec],
-    bench: &mut Bench,
-) -> Result<bool, Fail>
-    requires few { n ≤ 20 }
-    requires enough { LEAST_ROOM ≤ length room.old }
-    requires within { IsWithin n operation }
-    requires earlier { AreEarlier NUMBER operands }
-{
-    let before = bench.clock();
-    let mut going = begun(room);
-    let Ok(made) = make_diagram(operation, n, operands, &mut going, room, bench) else {
+/// The right file is made with one turn for each node and one more, no part taken, and so many calls.
+pub(crate) fn is_unswept(task: Task, calls: u64, given: &mut Given) -> Result<bool, Fail> {
+    let before = given.bench.clock();
+    let Ok(made) = given.make(task) else {
         return Ok(false);
     };
-    Ok(
-        made.turns == made.nodes.wrapping_add(1)
-            && made.next == 3
-            && bench.clock().wrapping_sub(before) == calls
-            && is_made(alloc, n, made, wanted, bench)?,
-    )
+    let few_calls = given.bench.clock().wrapping_sub(before) == calls;
+    let unswept = made.turns == made.nodes.wrapping_add(1) && made.next == 3;
+    Ok(given.is_made(task, made)? && few_calls && unswept)
 }
 
 // How many calls an operator's file takes, that gives these values where the table has 0 and 1.
@@ -146,51 +111,33 @@ fn wanted_calls(if_zero: bool, if_one: bool, bench: &Bench) -> u64 {
     }
 }
 
-// Each operator with what stands beside a table makes the right file without sweeps: that of a constant, of the table
-// or of its complement.
-fn copy_beside(
-    alloc: Global,
-    n: u32,
-    beside: Beside,
-    f: &[bool],
-    room: &mut [Rec],
-) -> Result<bool, Fail>
-    requires few { n ≤ 20 }
-    requires enough { LEAST_ROOM ≤ length room.old }
-{
-    let mut constant = Vec::new(alloc);
-    for _value in f {
-        constant.push(beside.constant())?;
-    }
-    let constant = constant.as_slice();
-    let mut bench = bench_of(alloc, n, [f, constant, f])?;
+// An operator with what stands beside a table makes the right file without sweeps: that of a constant, of the table or
+// of its complement.
+fn operator_copies(digits: u32, beside: Beside, given: &mut Given) -> Result<bool, Fail> {
+    let if_zero = beside.given(digits, false);
+    let if_one = beside.given(digits, true);
+    let calls = wanted_calls(if_zero, if_one, &given.bench);
+    is_unswept(operator_on(digits, beside.operands()), calls, given)
+}
+
+// So does each operator with what stands beside the table of a seed.
+fn copy_beside(seed: u64, beside: Beside, given: &mut Given) -> Result<bool, Fail> {
+    let n = 4 + (seed % 6) as u32;
+    let tables = Triple::with_constant(given.alloc, n, seed, beside.constant())?;
+    given.take(n, tables)?;
     for digits in 0..16 {
-        let wanted = made_of(alloc, digits, beside, f, constant)?;
-        let operation = StepOperation::Operator(operator(digits));
-        let operands = beside.operands();
-        let wanted = wanted.as_slice();
-        let if_zero = beside.given(digits, false);
-        let if_one = beside.given(digits, true);
-        let calls = wanted_calls(if_zero, if_one, &bench);
-        let right = is_unswept(
-            alloc, operation, n, operands, wanted, calls, room, &mut bench,
-        )?;
-        if !right {
+        if !operator_copies(digits, beside, given)? {
             return Ok(false);
         }
     }
     Ok(true)
 }
 
-fn copy_each(rt: HostRuntime) -> Result<bool, Fail> {
-    let alloc = rt.alloc();
-    let mut room = vec![in alloc; EMPTY; LEAST_ROOM]?;
-    let room = room.as_mut_slice();
+fn copy_each(alloc: Global) -> Result<bool, Fail> {
+    let mut given = Given::room_of(alloc, LEAST_ROOM)?;
     for seed in 0..TABLES {
-        let n = 4 + (seed % 6) as u32;
-        let f = Random::new(seed).table(alloc, n, ALL)?;
         for beside in EACH {
-            if !copy_beside(alloc, n, beside, f.as_slice(), room)? {
+            if !copy_beside(seed, *beside, &mut given)? {
                 return Ok(false);
             }
         }
@@ -202,37 +149,28 @@ fn copy_each(rt: HostRuntime) -> Result<bool, Fail> {
 fn an_operator_that_hangs_on_one_operand_at_most_needs_no_sweep(
     rt: HostRuntime,
 ) -> Result<(), Fail> {
-    let copied = copy_each(rt)?;
-    assert!(rt; copied);
-    Ok(())
+    holds(&rt, copy_each(rt.alloc()))
 }
 
-// How many calls an operation on one file makes.
-fn calls_of(operation: StepOperation, n: u32, room: &mut [Rec], bench: &mut Bench) -> Option<u64>
-    requires enough { LEAST_ROOM ≤ length room.old }
-    requires few { n ≤ 20 }
-    requires within { IsWithin n operation }
-{
-    let before = bench.clock();
-    let mut going = begun(room);
-    let made = make_diagram(operation, n, ONE, &mut going, room, bench);
-    made.ok()?;
-    Some(bench.clock().wrapping_sub(before))
+// How many calls a diagram takes that has this name.
+fn calls_of(name: &'static str, task: Task, given: &mut Given) -> Result<u64, Fail> {
+    let before = given.bench.clock();
+    given.make(task).ok().ok_or(name)?;
+    Ok(given.bench.clock().wrapping_sub(before))
 }
 
-// A copy makes fewer calls than the sweeps that choose between a function and itself.
-fn copies_make_fewer_calls(rt: HostRuntime) -> Result<bool, Fail> {
-    let alloc = rt.alloc();
-    let mut room = vec![in alloc; EMPTY; LEAST_ROOM]?;
-    let room = room.as_mut_slice();
+// A copy of a table of so many variables makes fewer calls than the sweeps that choose between a function and itself.
+fn copy_makes_fewer_calls(n: u32, given: &mut Given) -> Result<bool, Fail> {
+    given.take_one(n, 7)?;
+    let copy = calls_of("copy", operator_on(BOTH, ONE), given)?;
+    let swept = calls_of("swept", on_first(StepOperation::Choice), given)?;
+    Ok(copy < swept)
+}
+
+fn copies_make_fewer_calls(alloc: Global) -> Result<bool, Fail> {
+    let mut given = Given::room_of(alloc, LEAST_ROOM)?;
     for n in 0..10 {
-        let f = Random::new(7).table(alloc, n, ALL)?;
-        let f = f.as_slice();
-        let mut bench = bench_of(alloc, n, [f, f, f])?;
-        let both = StepOperation::Operator(operator(0b1000));
-        let copy = calls_of(both, n, room, &mut bench).ok_or("copy")?;
-        let swept = calls_of(StepOperation::Choice, n, room, &mut bench).ok_or("swept")?;
-        if copy >= swept {
+        if !copy_makes_fewer_calls(n, &mut given)? {
             return Ok(false);
         }
     }
@@ -241,40 +179,27 @@ fn copies_make_fewer_calls(rt: HostRuntime) -> Result<bool, Fail> {
 
 #[test]
 fn a_copy_makes_fewer_calls_than_sweeps(rt: HostRuntime) -> Result<(), Fail> {
-    let fewer = copies_make_fewer_calls(rt)?;
-    assert!(rt; fewer);
-    Ok(())
+    holds(&rt, copies_make_fewer_calls(rt.alloc()))
 }
 
 // A copy of more nodes than a checkpoint's interval has turns in the least room takes a turn for each piece and one
 // more, no part, and as many calls as a small one.
-fn copies_many_nodes(rt: HostRuntime) -> Result<bool, Fail> {
-    let alloc = rt.alloc();
-    let mut room = vec![in alloc; EMPTY; LEAST_ROOM]?;
-    let f = Random::new(7).table(alloc, MANY, ALL)?;
-    let f = f.as_slice();
-    let mut bench = bench_of(alloc, MANY, [f, &[], &[]])?;
-    let are_many = bench.file(FIRST).len() / 24 > LEAST_ROOM;
-    let pieces = (bench.file(FIRST).len() as u64).div_ceil(2048);
-    let calls = copy_calls(&bench);
-    let before = bench.clock();
-    let both = StepOperation::Operator(operator(0b1000));
-    let room = room.as_mut_slice();
-    let mut going = begun(room);
-    let made = make_diagram(both, MANY, ONE, &mut going, room, &mut bench);
-    let made = made.ok().ok_or("copy")?;
-    Ok(
-        are_many
-            && made.turns == pieces.wrapping_add(1)
-            && made.next == 3
-            && bench.clock().wrapping_sub(before) == calls
-            && is_made(alloc, MANY, made, f, &bench)?,
-    )
+fn copies_many_nodes(given: &mut Given) -> Result<bool, Fail> {
+    given.take(MANY, Triple::alone(given.alloc, MANY, 7)?)?;
+    let task = operator_on(BOTH, ONE);
+    let len = given.bench.file(FIRST).len();
+    let pieces = (len as u64).div_ceil(2048);
+    let calls = copy_calls(&given.bench);
+    let before = given.bench.clock();
+    let made = given.make(task).ok().ok_or("copy")?;
+    let few_calls = given.bench.clock().wrapping_sub(before) == calls;
+    let few_turns = made.turns == pieces.wrapping_add(1) && made.next == 3;
+    let are_many = len / 24 > LEAST_ROOM;
+    Ok(given.is_made(task, made)? && few_calls && few_turns && are_many)
 }
 
 #[test]
 fn a_copy_of_many_nodes_takes_a_turn_for_each_piece(rt: HostRuntime) -> Result<(), Fail> {
-    let copies = copies_many_nodes(rt)?;
-    assert!(rt; copies);
-    Ok(())
+    let mut given = Given::room_of(rt.alloc(), LEAST_ROOM)?;
+    holds(&rt, copies_many_nodes(&mut given))
 }

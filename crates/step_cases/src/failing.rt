@@ -1,23 +1,14 @@
 //! Steps of which one call fails, and which are done again on what it left.
-ghost use Rattle.std.specs.Prelude.{◌≤◌, length};
-ghost use Rattle.step_sweeps.specs.Given.{AreEarlier};
-ghost use Rattle.step_sweeps.specs.Operations.{IsWithin};
-ghost use Rattle.step_cases.specs.declared.failing.TheConstants.{FEWEST, MOST};
-ghost use Rattle.step_cases.specs.declared.steps.TheConstants.{NUMBER, LEAST_ROOM};
-
-use crate::steps::{EMPTY, LEAST_ROOM, ONE, THREE, TWO, begun, is_made, makes};
-use crate::triples::triple;
-use bool_tables::Quant;
-use case_tables::{
-    FIRST, SECOND, bench_of, choice_of, operator, product_of, quantified_of, restricted_of,
+use crate::given::Given;
+use crate::steps::{
+    CHOICE, LEAST_ROOM, ONE, TWO, Task, compared, evaluated, holds, implied, on_first, operator_on,
 };
-use rec_words::Rec;
+use bool_tables::Quant;
 use shelf_memory::Bench;
 use shelf_model::SortFault;
-use std::alloc::Global;
+use std::alloc::{AllocError, Global};
 use std::test::Fail;
-use step_sweeps::{Answered, StepOperation, compare, evaluate, imply, make_diagram};
-use top_down_sweep::OperandFiles;
+use step_sweeps::{Answered, StepOperation};
 
 /// The fewest variables that a case is of.
 pub(crate) const FEWEST: u32 = 4;
@@ -37,104 +28,64 @@ const MOST_CALLS: u64 = 400;
 /// How many cases make a diagram.
 pub(crate) const CASES: u32 = 5;
 
-/// The operation of a case of so many variables.
-pub(crate) fn operation_of(case: u32, n: u32) -> StepOperation
-    requires { FEWEST ≤ n }
-    ensures { IsWithin n result }
-{
+/// What a case makes.
+pub(crate) fn task_of(case: u32) -> Task {
     match case {
-        0 => StepOperation::Operator(operator(DIFFER)),
-        1 => StepOperation::Choice,
-        2 => StepOperation::Quantifier {
+        0 => operator_on(DIFFER, TWO),
+        1 => CHOICE,
+        2 => on_first(StepOperation::Quantifier {
             kind: Quant::Exists,
             level: 1,
-        },
-        3 => StepOperation::Restriction {
+        }),
+        3 => on_first(StepOperation::Restriction {
             level: 2,
             value: true,
-        },
-        _ => StepOperation::Operator(operator(NEITHER)),
+        }),
+        _ => operator_on(NEITHER, ONE),
     }
 }
 
-/// The files that it is on.
-pub(crate) fn operands_of(case: u32) -> OperandFiles
-    ensures { AreEarlier NUMBER result }
-{
-    match case {
-        0 => TWO,
-        1 => THREE,
-        _ => ONE,
-    }
-}
-
-// The table that it makes of three.
-fn wanted_of(alloc: Global, case: u32, n: u32, tables: [&[bool]; 3]) -> Result<Vec<bool>, Fail> {
-    Ok(match case {
-        0 => product_of(alloc, DIFFER, tables[0], tables[1])?,
-        1 => choice_of(alloc, tables[0], tables[1], tables[2])?,
-        2 => quantified_of(alloc, n, Quant::Exists, 1, tables[0])?,
-        3 => restricted_of(alloc, n, 2, true, tables[0])?,
-        _ => product_of(alloc, NEITHER, tables[0], tables[0])?,
-    })
+// Has the call behind so many others fail, and answers which one that is.
+fn fail_behind(calls: u64, bench: &mut Bench) -> Result<u64, AllocError> {
+    let fails = bench.clock().saturating_add(calls);
+    bench.fail_at(fails)?;
+    Ok(fails)
 }
 
 // A case of which a call fails is refused for the folder, and makes the right file where it is done again; nothing is
 // answered then. Where that call is never made the answer is whether it made the right file.
-fn makes_at(
-    alloc: Global,
-    case: u32,
-    n: u32,
-    call: u64,
-    tables: [&[bool]; 3],
-    room: &mut [Rec],
-) -> Result<Option<bool>, Fail>
-    requires some { FEWEST ≤ n }
-    requires few { n ≤ MOST }
-    requires enough { LEAST_ROOM ≤ length room.old }
-{
-    let (operation, operands) = (operation_of(case, n), operands_of(case));
-    let wanted = wanted_of(alloc, case, n, tables)?;
-    let wanted = wanted.as_slice();
-    let mut bench = bench_of(alloc, n, tables)?;
-    let fails = bench.clock().saturating_add(call);
-    bench.fail_at(fails)?;
-    let mut going = begun(room);
-    match make_diagram(operation, n, operands, &mut going, room, &mut bench) {
+fn makes_at(task: Task, n: u32, call: u64, given: &mut Given) -> Result<Option<bool>, Fail> {
+    given.take_seed(n, 1)?;
+    let fails = fail_behind(call, &mut given.bench)?;
+    match given.make(task) {
         Ok(made) => {
-            let right = is_made(alloc, n, made, wanted, &bench)?;
-            Ok(Some(right && bench.clock() <= fails))
+            let in_time = given.bench.clock() <= fails;
+            Ok(Some(given.is_made(task, made)? && in_time))
         }
-        Err(SortFault::Shelf) => {
-            let right = makes(alloc, operation, n, operands, wanted, room, &mut bench)?;
-            Ok(if right { None } else { Some(false) })
-        }
+        Err(SortFault::Shelf) => Ok(if given.makes(task)? {
+            None
+        } else {
+            Some(false)
+        }),
         Err(_) => Ok(Some(false)),
     }
 }
 
 // So it is with each of a case's calls.
-fn makes_again(alloc: Global, case: u32, n: u32, room: &mut [Rec]) -> Result<bool, Fail>
-    requires some { FEWEST ≤ n }
-    requires few { n ≤ MOST }
-    requires enough { LEAST_ROOM ≤ length room.old }
-{
-    let (first, second, third) = triple(alloc, n, 1)?;
-    let tables = [first.as_slice(), second.as_slice(), third.as_slice()];
+fn makes_again(task: Task, n: u32, given: &mut Given) -> Result<bool, Fail> {
     for call in 0..MOST_CALLS {
-        if let Some(right) = makes_at(alloc, case, n, call, tables, room)? {
+        if let Some(right) = makes_at(task, n, call, given)? {
             return Ok(right);
         }
     }
     Ok(false)
 }
 
-fn each_case_makes_again(rt: HostRuntime) -> Result<bool, Fail> {
-    let mut room = vec![in rt.alloc(); EMPTY; LEAST_ROOM]?;
-    let room = room.as_mut_slice();
+fn each_case_makes_again(alloc: Global) -> Result<bool, Fail> {
+    let mut given = Given::room_of(alloc, LEAST_ROOM)?;
     for case in 0..CASES {
         for n in FEWEST..MOST + 1 {
-            if !makes_again(rt.alloc(), case, n, room)? {
+            if !makes_again(task_of(case), n, &mut given)? {
                 return Ok(false);
             }
         }
@@ -144,13 +95,11 @@ fn each_case_makes_again(rt: HostRuntime) -> Result<bool, Fail> {
 
 #[test]
 fn a_step_is_done_again_behind_each_failing_call(rt: HostRuntime) -> Result<(), Fail> {
-    let again = each_case_makes_again(rt)?;
-    assert!(rt; again);
-    Ok(())
+    holds(&rt, each_case_makes_again(rt.alloc()))
 }
 
 /// What is asked of files that are those of one table.
-#[derive(Clone, Copy, Debug, PartialEq, Eq)]
+#[derive(Clone, Copy)]
 pub(crate) enum Asked {
     /// Whether two are the same.
     Same,
@@ -160,69 +109,56 @@ pub(crate) enum Asked {
     Value,
 }
 
+const EACH: &[Asked] = &[Asked::Same, Asked::Leq, Asked::Value];
+
 /// The answer to it.
-pub(crate) fn answer_of(
-    asked: Asked,
-    n: u32,
-    room: &mut [Rec],
-    bench: &mut Bench,
-) -> Result<Answered, SortFault>
-    requires few { n ≤ MOST }
-    requires enough { LEAST_ROOM ≤ length room.old }
-{
-    let mut going = begun(room);
+pub(crate) fn answer_of(asked: Asked, given: &mut Given) -> Result<Answered, SortFault> {
+    let room = given.room.as_mut_slice();
     match asked {
-        Asked::Same => compare(n, FIRST, SECOND, &mut going, room, bench),
-        Asked::Leq => imply(n, FIRST, SECOND, &mut going, room, bench),
-        Asked::Value => evaluate(n, FIRST, b"000000000", 0, &mut going, room, bench),
+        Asked::Same => compared(given.n, 0, 1, room, &mut given.bench),
+        Asked::Leq => implied(given.n, 0, 1, room, &mut given.bench),
+        Asked::Value => evaluated(given.n, b"000000000", 0, room, &mut given.bench),
     }
 }
 
-// An answer of which a call fails is refused for the folder, and is right where it is asked again.
-fn answers_at(
-    alloc: Global,
-    asked: Asked,
-    n: u32,
-    call: u64,
-    table: &[bool],
-    room: &mut [Rec],
-) -> Result<Option<bool>, Fail>
-    requires few { n ≤ MOST }
-    requires enough { LEAST_ROOM ≤ length room.old }
-{
-    let wanted = asked != Asked::Value || table.first().copied() == Some(true);
-    let mut bench = bench_of(alloc, n, [table, table, table])?;
-    let fails = bench.clock().saturating_add(call);
-    bench.fail_at(fails)?;
-    match answer_of(asked, n, room, &mut bench) {
-        Ok(answered) => Ok(Some(answered.answer == wanted && bench.clock() <= fails)),
-        Err(SortFault::Shelf) => match answer_of(asked, n, room, &mut bench) {
-            Ok(answered) if answered.answer == wanted => Ok(None),
-            _ => Ok(Some(false)),
+// The right answer where the files are those of this table.
+fn right_answer(asked: Asked, table: &[bool]) -> bool {
+    match asked {
+        Asked::Same | Asked::Leq => true,
+        Asked::Value => table.first().copied() == Some(true),
+    }
+}
+
+// An answer of which a call fails is refused for the folder, and is right where it is asked again; nothing is answered
+// then. Where that call is never made the answer is whether it was right.
+fn answers_at(asked: Asked, n: u32, call: u64, given: &mut Given) -> Result<Option<bool>, Fail> {
+    given.take_one(n, 1)?;
+    let wanted = right_answer(asked, given.tables.table(0));
+    let fails = fail_behind(call, &mut given.bench)?;
+    Ok(match answer_of(asked, given) {
+        Ok(answered) => Some(answered.answer == wanted && given.bench.clock() <= fails),
+        Err(SortFault::Shelf) => match answer_of(asked, given) {
+            Ok(answered) if answered.answer == wanted => None,
+            _ => Some(false),
         },
-        Err(_) => Ok(Some(false)),
-    }
+        Err(_) => Some(false),
+    })
 }
 
-fn answers_again(alloc: Global, asked: Asked, n: u32, room: &mut [Rec]) -> Result<bool, Fail>
-    requires few { n ≤ MOST }
-    requires enough { LEAST_ROOM ≤ length room.old }
-{
-    let (table, _, _) = triple(alloc, n, 1)?;
+fn answers_again(asked: Asked, n: u32, given: &mut Given) -> Result<bool, Fail> {
     for call in 0..MOST_CALLS {
-        if let Some(right) = answers_at(alloc, asked, n, call, table.as_slice(), room)? {
+        if let Some(right) = answers_at(asked, n, call, given)? {
             return Ok(right);
         }
     }
     Ok(false)
 }
 
-fn each_answers_again(rt: HostRuntime) -> Result<bool, Fail> {
-    let mut room = vec![in rt.alloc(); EMPTY; LEAST_ROOM]?;
-    let room = room.as_mut_slice();
+fn each_answers_again(alloc: Global) -> Result<bool, Fail> {
+    let mut given = Given::room_of(alloc, LEAST_ROOM)?;
     for n in FEWEST..MOST + 1 {
-        for asked in [Asked::Same, Asked::Leq, Asked::Value] {
-            if !answers_again(rt.alloc(), asked, n, room)? {
+        for asked in EACH {
+            if !answers_again(*asked, n, &mut given)? {
                 return Ok(false);
             }
         }
@@ -232,7 +168,5 @@ fn each_answers_again(rt: HostRuntime) -> Result<bool, Fail> {
 
 #[test]
 fn an_answer_is_asked_again_behind_each_failing_call(rt: HostRuntime) -> Result<(), Fail> {
-    let again = each_answers_again(rt)?;
-    assert!(rt; again);
-    Ok(())
+    holds(&rt, each_answers_again(rt.alloc()))
 }

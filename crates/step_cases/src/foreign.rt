@@ -1,81 +1,69 @@
 //! Steps on operand files that no program wrote.
-ghost use Rattle.std.specs.Prelude.{◌≤◌, length};
-ghost use Rattle.step_cases.specs.declared.steps.TheConstants.{LEAST_ROOM};
-
-use crate::failing::{Asked, CASES, FEWEST, answer_of, operands_of, operation_of};
+use crate::failing::{Asked, CASES, FEWEST, answer_of, task_of};
+use crate::given::Given;
 use crate::judged::is_damaged_at;
-use crate::steps::{EMPTY, LEAST_ROOM, begun};
-use crate::triples::triple;
-use case_tables::{FIRST, bench_of, put_bytes};
-use rec_words::Rec;
-use shelf_memory::Bench;
+use crate::steps::{LEAST_ROOM, holds};
+use case_tables::{FIRST, put_bytes};
 use shelf_model::SortFault;
+use std::alloc::{AllocError, Global};
 use std::test::Fail;
-use step_sweeps::make_diagram;
 
 // Why a step is refused that makes a diagram of the files, or that answers.
-fn fault_of(case: u32, room: &mut [Rec], bench: &mut Bench) -> Option<SortFault>
-    requires enough { LEAST_ROOM ≤ length room.old }
-{
-    let asked = match case {
-        0 => Asked::Same,
-        1 => Asked::Leq,
-        2 => Asked::Value,
-        _ => {
-            let operation = operation_of(case - 3, FEWEST);
-            let operands = operands_of(case - 3);
-            let mut going = begun(room);
-            let made = make_diagram(operation, FEWEST, operands, &mut going, room, bench);
-            return made.err();
-        }
-    };
-    answer_of(asked, FEWEST, room, bench).err()
+fn fault_of(case: u32, given: &mut Given) -> Option<SortFault> {
+    match case {
+        0 => answer_of(Asked::Same, given).err(),
+        1 => answer_of(Asked::Leq, given).err(),
+        2 => answer_of(Asked::Value, given).err(),
+        _ => given.make(task_of(case - 3)).err(),
+    }
 }
 
 // A step over a first file of these bytes ends, or says where that file is damaged, which it is.
-fn ends_or_tells(case: u32, bytes: &[u8], room: &mut [Rec], bench: &mut Bench) -> Result<bool, Fail>
-    requires enough { LEAST_ROOM ≤ length room.old }
-{
-    put_bytes(bench, FIRST, bytes)?;
-    Ok(match fault_of(case, room, bench) {
+fn ends_or_tells(case: u32, bytes: &[u8], given: &mut Given) -> Result<bool, Fail> {
+    put_bytes(&mut given.bench, FIRST, bytes)?;
+    Ok(match fault_of(case, given) {
         None => true,
         Some(SortFault::Damaged { file, at }) => file == FIRST && is_damaged_at(FEWEST, bytes, at),
         Some(_) => false,
     })
 }
 
-// So does a step over a file that ends early, or that has another byte somewhere.
-fn ends_with_changed_bytes(rt: HostRuntime, case: u32) -> Result<bool, Fail> {
-    let alloc = rt.alloc();
-    let mut room = vec![in alloc; EMPTY; LEAST_ROOM]?;
-    let room = room.as_mut_slice();
-    let (first, second, third) = triple(alloc, FEWEST, 1)?;
-    let tables = [first.as_slice(), second.as_slice(), third.as_slice()];
-    let mut bench = bench_of(alloc, FEWEST, tables)?;
-    let mut bytes = Vec::new(alloc);
-    bytes.extend_from_slice(bench.file(FIRST))?;
-    for at in 0..bytes.len() {
-        let (front, _back) = bytes.as_slice().split_at(at);
-        if !ends_or_tells(case, front, room, &mut bench)? {
+// The bytes with another one at a place.
+fn with_change(alloc: Global, bytes: &[u8], at: usize, change: u8) -> Result<Vec<u8>, AllocError> {
+    let mut changed = Vec::from_slice(alloc, bytes)?;
+    if let Some(byte) = changed.as_mut_slice().get_mut(at) {
+        *byte ^= change;
+    }
+    Ok(changed)
+}
+
+// So does a step over a file that has one of three other bytes at a place.
+fn ends_with_changes(case: u32, bytes: &[u8], at: usize, given: &mut Given) -> Result<bool, Fail> {
+    for change in &[1, 0x80, 0xff] {
+        let changed = with_change(given.alloc, bytes, at, *change)?;
+        if !ends_or_tells(case, changed.as_slice(), given)? {
             return Ok(false);
-        }
-        for change in [1, 0x80, 0xff] {
-            let mut changed = Vec::new(alloc);
-            changed.extend_from_slice(bytes.as_slice())?;
-            if let Some(byte) = changed.as_mut_slice().get_mut(at) {
-                *byte ^= change;
-            }
-            if !ends_or_tells(case, changed.as_slice(), room, &mut bench)? {
-                return Ok(false);
-            }
         }
     }
     Ok(true)
 }
 
-fn each_step_ends_with_changed_bytes(rt: HostRuntime) -> Result<bool, Fail> {
+// So does a step over a file that ends early, or that has another byte somewhere.
+fn ends_with_changed_bytes(case: u32, bytes: &[u8], given: &mut Given) -> Result<bool, Fail> {
+    for at in 0..bytes.len() {
+        let (front, _back) = bytes.split_at(at);
+        if !ends_or_tells(case, front, given)? || !ends_with_changes(case, bytes, at, given)? {
+            return Ok(false);
+        }
+    }
+    Ok(true)
+}
+
+fn each_step_ends_with_changed_bytes(given: &mut Given) -> Result<bool, Fail> {
     for case in 0..CASES + 3 {
-        if !ends_with_changed_bytes(rt, case)? {
+        given.take_seed(FEWEST, 1)?;
+        let bytes = Vec::from_slice(given.alloc, given.bench.file(FIRST))?;
+        if !ends_with_changed_bytes(case, bytes.as_slice(), given)? {
             return Ok(false);
         }
     }
@@ -84,7 +72,6 @@ fn each_step_ends_with_changed_bytes(rt: HostRuntime) -> Result<bool, Fail> {
 
 #[test]
 fn a_changed_operand_is_damaged_or_the_step_ends(rt: HostRuntime) -> Result<(), Fail> {
-    let ends = each_step_ends_with_changed_bytes(rt)?;
-    assert!(rt; ends);
-    Ok(())
+    let mut given = Given::room_of(rt.alloc(), LEAST_ROOM)?;
+    holds(&rt, each_step_ends_with_changed_bytes(&mut given))
 }

@@ -6,15 +6,23 @@ const RECORD: usize = 24;
 /// The level of the truth values, deeper than any node's.
 const DEEPEST: u64 = 65_535;
 
-// The words of the record at a place, the first byte being the greatest; bytes that aren't there count as 0.
-fn words_at(bytes: &[u8], place: usize) -> [u64; 3] {
-    let mut words = [0; 3];
-    for k in 0..RECORD {
-        let at = place.saturating_mul(RECORD).saturating_add(k);
-        let byte = bytes.get(at).copied().unwrap_or(0);
-        words[k / 8] = (words[k / 8] << 8) | u64::from(byte);
+/// The word at a byte, the first byte being the greatest; bytes that aren't there count as 0.
+pub(crate) fn word_at(bytes: &[u8], at: usize) -> u64 {
+    let mut word = 0;
+    for place in at..at.saturating_add(8) {
+        word = (word << 8) | u64::from(bytes.get(place).copied().unwrap_or(0));
     }
-    words
+    word
+}
+
+// The words of the record at a place.
+fn words_at(bytes: &[u8], place: usize) -> [u64; 3] {
+    let at = place.saturating_mul(RECORD);
+    [
+        word_at(bytes, at),
+        word_at(bytes, at.saturating_add(8)),
+        word_at(bytes, at.saturating_add(16)),
+    ]
 }
 
 // How many records stand in front of the last one.
@@ -34,11 +42,19 @@ fn is_value(word: u64) -> bool {
     word == 1 << 63 || word == (1 << 63) + 1
 }
 
+// Whether a node may point to what has this word.
+fn is_below(word: u64, node: u64) -> bool {
+    (is_node(word) || is_value(word)) && level_of(word) > level_of(node)
+}
+
 // Whether the words are those of a node that may stand in a file for so many variables.
 fn is_sound(n: u32, words: [u64; 3]) -> bool {
     let [node, low, high] = words;
-    let is_below = |word: u64| (is_node(word) || is_value(word)) && level_of(word) > level_of(node);
-    is_node(node) && level_of(node) < u64::from(n) && low != high && is_below(low) && is_below(high)
+    is_node(node)
+        && level_of(node) < u64::from(n)
+        && low != high
+        && is_below(low, node)
+        && is_below(high, node)
 }
 
 // Whether the bytes are whole records, the last of which is a trailer: the root, the number of nodes and of variables.
@@ -92,14 +108,17 @@ fn belongs_at(bytes: &[u8], place: usize, node: u64) -> bool {
     (place == 0 && node > above) || (behind < count_of(bytes) && below < node && node < above)
 }
 
+// Whether a word names a node that no record has, and that would have to stand there.
+fn is_missed(bytes: &[u8], place: usize, named: u64) -> bool {
+    is_node(named) && !has_node(bytes, named) && belongs_at(bytes, place, named)
+}
+
 // Whether a record from a place on names a node that no record has, and that would have to stand there.
 fn is_missed_at(bytes: &[u8], place: usize) -> bool {
     for from in place..count_of(bytes) {
         let [_node, low, high] = words_at(bytes, from);
-        for named in [low, high] {
-            if is_node(named) && !has_node(bytes, named) && belongs_at(bytes, place, named) {
-                return true;
-            }
+        if is_missed(bytes, place, low) || is_missed(bytes, place, high) {
+            return true;
         }
     }
     false
@@ -114,10 +133,6 @@ pub(crate) fn is_damaged_at(n: u32, bytes: &[u8], at: u64) -> bool {
     if let Some(place) = first_damage(n, bytes) {
         return at == (place.saturating_mul(RECORD)) as u64;
     }
-    for place in 0..count_of(bytes) {
-        if at == (place.saturating_mul(RECORD)) as u64 {
-            return is_missed_at(bytes, place);
-        }
-    }
-    false
+    let place = at / RECORD as u64;
+    at % RECORD as u64 == 0 && place < count_of(bytes) as u64 && is_missed_at(bytes, place as usize)
 }

@@ -16,6 +16,8 @@ mod failing;
 #[cfg(test)]
 mod foreign;
 #[cfg(test)]
+mod given;
+#[cfg(test)]
 mod judged;
 #[cfg(test)]
 mod products;
@@ -24,4 +26,4 @@ mod reductions;
 #[cfg(test)]
 mod steps;
 #[cfg(test)]
-mod triples;
+mod tables;
