@@ -1,12 +1,11 @@
 //! Runs that would go on with a step from files that aren't as its checkpoint left them: the step is run once more from
 //! its beginning.
-use crate::words::are_alike;
+use crate::folders::{copied_with, stop, with_bytes};
+use crate::words::{are_alike, is_run_stopped, whole_run};
 use case_runs::{SMALL, bench_with, gives, run};
 use case_tables::put_bytes;
 use example_script::gen_script;
-use file_numbers::{
-    CATALOGUE, FIRST_RUN_PART, INNER_PART, JOB, JOB_GATE, STEP_GATE, checkpoint_gate, node_file,
-};
+use file_numbers::{FIRST_RUN_PART, INNER_PART, checkpoint_gate, node_file};
 use shelf_memory::{Bench, Choice};
 use shelf_model::FileNo;
 use std::alloc::{AllocError, Global};
@@ -33,47 +32,10 @@ const SECOND_POINTER: usize = 16;
 const ZERO: [u8; 8] = [128, 0, 0, 0, 0, 0, 0, 0];
 
 /// Files of a step: its arcs, or its runs.
-#[derive(Clone, Copy, Debug, PartialEq, Eq)]
+#[derive(Clone, Copy, Debug)]
 enum Kind {
     Arcs,
     Runs,
-}
-
-// The bytes with others at a place.
-fn with_bytes(
-    alloc: Global,
-    bytes: &[u8],
-    at: usize,
-    others: &[u8],
-) -> Result<Vec<u8>, AllocError> {
-    let mut changed = Vec::from_slice(alloc, bytes)?;
-    for (k, byte) in others.iter().enumerate() {
-        if let Some(place) = changed.as_mut_slice().get_mut(at.saturating_add(k)) {
-            *place = *byte;
-        }
-    }
-    Ok(changed)
-}
-
-// A folder with the same files of the job, of the steps before the one at work and of its first parts.
-fn copied(alloc: Global, script: &[u8], bench: &Bench) -> Result<Bench, Fail> {
-    let mut copy = bench_with(alloc, script, None)?;
-    for f in [JOB, JOB_GATE, CATALOGUE, STEP_GATE] {
-        put_bytes(&mut copy, f, bench.file(f))?;
-    }
-    for step in 0..AT_WORK {
-        put_bytes(&mut copy, node_file(step), bench.file(node_file(step)))?;
-    }
-    for part in 0..PARTS {
-        let f = FileNo {
-            step: AT_WORK,
-            part,
-        };
-        if !bench.file(f).is_empty() {
-            put_bytes(&mut copy, f, bench.file(f))?;
-        }
-    }
-    Ok(copy)
 }
 
 // The bytes, each of which is 255, so that no record is that of an item.
@@ -110,41 +72,42 @@ fn spoil(alloc: Global, kind: Kind, bench: &mut Bench) -> Result<bool, Fail> {
 fn stopped(alloc: Global, script: &[u8]) -> Result<Bench, Fail> {
     let gate = checkpoint_gate(AT_WORK);
     let mut bench = bench_with(alloc, script, None)?;
-    bench.fail_when(gate, 2);
-    let status = run(alloc, &SMALL, &mut bench);
-    if status != 7 || bench.file(gate).len() != 2 {
+    if !is_run_stopped(alloc, gate, 2, &mut bench) || bench.file(gate).len() != 2 {
         return Err(Fail::from("the run isn't stopped"));
     }
-    Ok(bench.stop(Choice::Present)?)
+    stop(alloc, Choice::Present, &mut bench)?;
+    Ok(bench)
 }
 
-// Whether the next run ends as one that nothing stops, and how many calls it makes.
-fn next_run(alloc: Global, whole: &Bench, bench: Bench) -> Option<u64> {
-    let mut bench = bench;
-    if run(alloc, &SMALL, &mut bench) == 0 && are_alike(&bench, whole) {
+// How many calls the next run makes, if it ends as one that nothing stops.
+fn next_run(alloc: Global, whole: &Bench, bench: &mut Bench) -> Option<u64> {
+    let ended = run(alloc, &SMALL, bench) == 0;
+    if ended && are_alike(bench, whole) {
         Some(bench.clock())
     } else {
         None
     }
 }
 
+// A copy of the folder with changed files of that kind.
+fn spoiled_copy(alloc: Global, kind: Kind, script: &[u8], found: &Bench) -> Result<Bench, Fail> {
+    let mut copy = copied_with(alloc, script, AT_WORK, found)?;
+    if !spoil(alloc, kind, &mut copy)? {
+        return Err(Fail::from("the step has no such file"));
+    }
+    Ok(copy)
+}
+
 // How many calls the runs behind that stop make that end as one that nothing stops: where nothing was changed, and
 // where a file of that kind was.
 fn runs_behind(alloc: Global, kind: Kind) -> Result<(Option<u64>, Option<u64>), Fail> {
     let script = gen_script(alloc, SIZE)?;
-    let script = script.as_slice();
-    let mut whole = bench_with(alloc, script, None)?;
-    if run(alloc, &SMALL, &mut whole) != 0 {
-        return Err(Fail::from("the run isn't done"));
-    }
-    let found = stopped(alloc, script)?;
-    let mut spoiled = copied(alloc, script, &found)?;
-    if !spoil(alloc, kind, &mut spoiled)? {
-        return Err(Fail::from("the step has no such file"));
-    }
+    let whole = whole_run(alloc, script.as_slice())?;
+    let mut found = stopped(alloc, script.as_slice())?;
+    let mut changed = spoiled_copy(alloc, kind, script.as_slice(), &found)?;
     Ok((
-        next_run(alloc, &whole, found),
-        next_run(alloc, &whole, spoiled),
+        next_run(alloc, &whole, &mut found),
+        next_run(alloc, &whole, &mut changed),
     ))
 }
 
@@ -166,6 +129,13 @@ fn a_step_whose_runs_were_changed_is_made_from_its_beginning(rt: HostRuntime) ->
     begins_anew(&rt, rt.alloc(), Kind::Runs)
 }
 
+// Damages the first record of that operand's file.
+fn damage_operand(alloc: Global, bench: &mut Bench) -> Result<(), Fail> {
+    let f = node_file(OPERAND);
+    let bytes = with_bytes(alloc, bench.file(f), SECOND_POINTER, &ZERO)?;
+    put_bytes(bench, f, bytes.as_slice())
+}
+
 // Whether a run names the operand's place where that is damaged too.
 fn names_operand(alloc: Global) -> Result<bool, Fail> {
     let script = gen_script(alloc, SIZE)?;
@@ -173,9 +143,7 @@ fn names_operand(alloc: Global) -> Result<bool, Fail> {
     if !spoil(alloc, Kind::Runs, &mut bench)? {
         return Ok(false);
     }
-    let f = node_file(OPERAND);
-    let bytes = with_bytes(alloc, bench.file(f), SECOND_POINTER, &ZERO)?;
-    put_bytes(&mut bench, f, bytes.as_slice())?;
+    damage_operand(alloc, &mut bench)?;
     Ok(gives(alloc, &SMALL, &mut bench, 10, DAMAGED))
 }
 

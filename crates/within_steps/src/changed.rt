@@ -1,16 +1,14 @@
 //! Checkpoints that the step can't have saved: they are refused at their place, and without them it begins anew. Those
 //! that a run with another budget saved are as good as its own.
-ghost use Rattle.std.specs.Prelude.{◌≤◌, length};
-
-use crate::folders::{copied, folder_of};
-use crate::lives::{EMPTY, LEAST_ROOM, Whole, ends_like, live, saved_in, whole_in};
+use crate::folders::{copied, folder_of, with_bytes};
+use crate::lives::{EMPTY, LEAST_ROOM, Whole, ends_like, is_saved, live, whole_in};
 use crate::steps::{NUMBER, Request, Tried};
 use case_tables::put_bytes;
 use file_numbers::{checkpoint_file, checkpoint_gate, node_file};
 use rec_words::Rec;
 use shelf_memory::{Bench, Choice};
 use shelf_model::SortFault;
-use std::alloc::{AllocError, Global};
+use std::alloc::Global;
 use std::process::Abort;
 use std::test::Fail;
 
@@ -31,7 +29,7 @@ const BUDGET: usize = 4;
 const TABLES: usize = 5;
 
 /// What a word of a checkpoint is changed to.
-#[derive(Clone, Copy, Debug, PartialEq, Eq)]
+#[derive(Clone, Copy)]
 enum Change {
     /// The next number.
     Next,
@@ -48,7 +46,7 @@ enum Change {
 }
 
 /// What is changed in each case.
-const CHANGES: [(usize, Change); 6] = [
+const CHANGES: &[(usize, Change)] = &[
     (STEP, Change::Next),
     (SWEEP, Change::Other),
     (SWEEP, Change::NoSweep),
@@ -60,7 +58,7 @@ const CHANGES: [(usize, Change); 6] = [
 /// The budget of the step's own run, and others that a run may have had which saved it, or that none may have.
 const OWN_BUDGET: u64 = 16_384;
 
-const OTHER_BUDGETS: [u64; 3] = [0, 4_194_304, (1 << 32) - 1];
+const OTHER_BUDGETS: &[u64] = &[0, 4_194_304, (1 << 32) - 1];
 
 /// The words that name files in a checkpoint, with what they are: where two operands and the arcs are named, one
 /// operand and the arcs, the steps of the arcs and the nodes, two operands that are compared, and one that is
@@ -108,17 +106,6 @@ fn word_at(bytes: &[u8], at: usize) -> u64 {
     word
 }
 
-// The bytes with another word at a place.
-fn with_word(alloc: Global, bytes: &[u8], at: usize, word: u64) -> Result<Vec<u8>, AllocError> {
-    let mut changed = Vec::from_slice(alloc, bytes)?;
-    for (k, byte) in word.to_be_bytes().iter().enumerate() {
-        if let Some(place) = changed.as_mut_slice().get_mut(at.saturating_add(k)) {
-            *place = *byte;
-        }
-    }
-    Ok(changed)
-}
-
 // What a word of the checkpoint at a place is changed to.
 fn changed_word(points: &[u8], place: usize, word: usize, change: Change) -> u64 {
     let old = word_at(points, place.saturating_add(8 * (word % 2048)));
@@ -132,6 +119,18 @@ fn changed_word(points: &[u8], place: usize, word: usize, change: Change) -> u64
     }
 }
 
+// Puts the step's checkpoints, with another word at a byte of them.
+fn put_word(
+    alloc: Global,
+    points: &[u8],
+    at: usize,
+    word: u64,
+    bench: &mut Bench,
+) -> Result<(), Fail> {
+    let changed = with_bytes(alloc, points, at, &word.to_be_bytes())?;
+    put_bytes(bench, checkpoint_file(NUMBER), changed.as_slice())
+}
+
 // Whether a step is refused at the place of its last checkpoint, of which a word is changed.
 fn is_refused(
     alloc: Global,
@@ -141,15 +140,12 @@ fn is_refused(
     word: usize,
     change: Change,
     room: &mut [Rec],
-) -> Result<bool, Fail>
-    requires room { (16384 ≤ length room.old) × (length room.old ≤ 4194304) }
-{
-    let mut bench = copied(alloc, NUMBER, saved)?;
+) -> Result<bool, Fail> {
     let points = saved.file(checkpoint_file(NUMBER));
     let other = changed_word(points, place, word, change);
     let at = place.saturating_add(8 * (word % 2048));
-    let changed = with_word(alloc, points, at, other)?;
-    put_bytes(&mut bench, checkpoint_file(NUMBER), changed.as_slice())?;
+    let mut bench = copied(alloc, NUMBER, saved)?;
+    put_word(alloc, points, at, other, &mut bench)?;
     let refused = SortFault::Damaged {
         file: checkpoint_file(NUMBER),
         at: place as u64,
@@ -165,12 +161,10 @@ fn wrong_word(
     place: usize,
     files: &[(usize, u64)],
     room: &mut [Rec],
-) -> Result<Option<usize>, Fail>
-    requires room { (16384 ≤ length room.old) × (length room.old ≤ 4194304) }
-{
+) -> Result<Option<usize>, Fail> {
     for (word, change) in CHANGES {
-        if !is_refused(alloc, request, saved, place, word, change, room)? {
-            return Ok(Some(word));
+        if !is_refused(alloc, request, saved, place, *word, *change, room)? {
+            return Ok(Some(*word));
         }
     }
     let points = saved.file(checkpoint_file(NUMBER));
@@ -192,75 +186,114 @@ fn behind_budget(
     place: usize,
     budget: u64,
     room: &mut [Rec],
-) -> Result<Whole, Fail>
-    requires room { (16384 ≤ length room.old) × (length room.old ≤ 4194304) }
-{
-    let mut bench = copied(alloc, NUMBER, saved)?;
+) -> Result<Whole, Fail> {
     let points = saved.file(checkpoint_file(NUMBER));
-    let changed = with_word(alloc, points, place.saturating_add(8 * BUDGET), budget)?;
-    put_bytes(&mut bench, checkpoint_file(NUMBER), changed.as_slice())?;
+    let mut bench = copied(alloc, NUMBER, saved)?;
+    put_word(
+        alloc,
+        points,
+        place.saturating_add(8 * BUDGET),
+        budget,
+        &mut bench,
+    )?;
     whole_in(request, room, bench)
 }
 
-// The first budget with which it comes to another entry, another file or other calls than with that of its own run.
+// Whether it comes to another entry, another file or other calls with that budget than with that of its own run.
+fn minds_budget(
+    alloc: Global,
+    request: &Request,
+    saved: &Bench,
+    place: usize,
+    budget: u64,
+    own: &Whole,
+    room: &mut [Rec],
+) -> Result<bool, Fail> {
+    let other = behind_budget(alloc, request, saved, place, budget, room)?;
+    let f = node_file(NUMBER);
+    Ok(other.lived != own.lived || other.bench.file(f) != own.bench.file(f))
+}
+
+// The first budget with which it does.
 fn minded_budget(
     alloc: Global,
     request: &Request,
     saved: &Bench,
     place: usize,
     room: &mut [Rec],
-) -> Result<Option<u64>, Fail>
-    requires room { (16384 ≤ length room.old) × (length room.old ≤ 4194304) }
-{
+) -> Result<Option<u64>, Fail> {
     let own = behind_budget(alloc, request, saved, place, OWN_BUDGET, room)?;
     for budget in OTHER_BUDGETS {
-        let other = behind_budget(alloc, request, saved, place, budget, room)?;
-        let f = node_file(NUMBER);
-        if other.lived != own.lived || other.bench.file(f) != own.bench.file(f) {
-            return Ok(Some(budget));
+        if minds_budget(alloc, request, saved, place, *budget, &own, room)? {
+            return Ok(Some(*budget));
         }
     }
     Ok(None)
 }
 
-// Whether a step whose gate of checkpoints is cut begins anew.
+// A folder with the same files, but with the gate of the step's checkpoints cut.
+fn ungated(alloc: Global, saved: &Bench) -> Result<Bench, Fail> {
+    let mut bench = copied(alloc, NUMBER, saved)?;
+    put_bytes(&mut bench, checkpoint_gate(NUMBER), b"")?;
+    Ok(bench)
+}
+
+// Whether the step begins anew there.
 fn begins_anew(
     alloc: Global,
     request: &Request,
     folder: &Bench,
     saved: &Bench,
     room: &mut [Rec],
-) -> Result<bool, Fail>
-    requires room { (16384 ≤ length room.old) × (length room.old ≤ 4194304) }
-{
+) -> Result<bool, Fail> {
     let whole = whole_in(request, room, copied(alloc, NUMBER, folder)?)?;
-    let mut bench = copied(alloc, NUMBER, saved)?;
-    put_bytes(&mut bench, checkpoint_gate(NUMBER), b"")?;
+    let mut bench = ungated(alloc, saved)?;
     let lived = ends_like(request, &whole, room, &mut bench);
     Ok(lived.is_some_and(|lived| lived.calls >= whole.lived.calls))
 }
 
-// Of the step's checkpoint of that number, counted from 1, the first word is told whose change isn't refused, or none,
-// the first budget that changes anything, or none, and whether the step begins anew without its gate.
-fn wrong_change(
+// A copy of the folder in which the step was stopped once its gate counts so many checkpoints.
+fn saved_behind(
     alloc: Global,
-    tried: Tried,
+    request: &Request,
+    saves: u64,
+    folder: &Bench,
+    room: &mut [Rec],
+) -> Result<Bench, Fail> {
+    let mut bench = copied(alloc, NUMBER, folder)?;
+    if !is_saved(alloc, request, saves, Choice::Present, room, &mut bench)? {
+        return Err(Fail::from("so many checkpoints aren't gated"));
+    }
+    Ok(bench)
+}
+
+/// Of a checkpoint, the first word whose change isn't refused, or none; the first budget that changes anything, or none;
+/// and whether the step begins anew without its gate.
+type Found = (Option<usize>, Option<u64>, bool);
+
+// What is found of the step's checkpoint of that number, counted from 1, in that folder.
+fn found_in(
+    alloc: Global,
+    request: &Request,
     saves: u64,
     files: &[(usize, u64)],
-) -> Result<(Option<usize>, Option<u64>, bool), Fail> {
-    let request = tried.request();
+    folder: &Bench,
+    room: &mut [Rec],
+) -> Result<Found, Fail> {
+    let saved = saved_behind(alloc, request, saves, folder, room)?;
+    let place = POINT_SIZE.wrapping_mul(saves.saturating_sub(1) as usize);
+    let wrong = wrong_word(alloc, request, &saved, place, files, room)?;
+    let minded = minded_budget(alloc, request, &saved, place, room)?;
+    let anew = begins_anew(alloc, request, folder, &saved, room)?;
+    Ok((wrong, minded, anew))
+}
+
+// So it is in the least room.
+fn found(alloc: Global, tried: Tried, saves: u64, files: &[(usize, u64)]) -> Result<Found, Fail> {
     let folder = folder_of(alloc, tried)?;
     let mut records = vec![in alloc; EMPTY; LEAST_ROOM]?;
     let room = records.as_mut_slice();
-    let bench = copied(alloc, NUMBER, &folder)?;
-    let Some(saved) = saved_in(&request, saves, Choice::Present, room, bench)? else {
-        return Err(Fail::from("so many checkpoints aren't gated"));
-    };
-    let place = POINT_SIZE.wrapping_mul(saves.saturating_sub(1) as usize);
-    let wrong = wrong_word(alloc, &request, &saved, place, files, room)?;
-    let minded = minded_budget(alloc, &request, &saved, place, room)?;
-    let anew = begins_anew(alloc, &request, &folder, &saved, room)?;
-    Ok((wrong, minded, anew))
+    found_in(alloc, &tried.request(), saves, files, &folder, room)
 }
 
 // Each such checkpoint is refused, another budget changes nothing, and without checkpoints the step begins anew.
@@ -271,7 +304,7 @@ fn is_guarded(
     saves: u64,
     files: &[(usize, u64)],
 ) -> Result<(), Fail> {
-    let (wrong, minded, anew) = wrong_change(alloc, tried, saves, files)?;
+    let (wrong, minded, anew) = found(alloc, tried, saves, files)?;
     let is_so = wrong.is_none() && minded.is_none() && anew;
     assert!(rt; is_so, "word {wrong:?}, budget {minded:?}, {anew}");
     Ok(())

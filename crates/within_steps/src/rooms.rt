@@ -1,9 +1,7 @@
 //! The step of the example script of size 15 that makes the largest diagram, saved in one room and gone on with in
 //! another.
-ghost use Rattle.std.specs.Prelude.{◌≡◌, ◌≤◌, length};
-
 use crate::folders::copied;
-use crate::lives::{EMPTY, LEAST_ROOM, Whole, live, saved_in, whole_in};
+use crate::lives::{EMPTY, LEAST_ROOM, MOST_ROOM, Whole, is_saved, live, whole_in};
 use crate::words::{EQUAL, NODES, committed_to, equality};
 use example_script::gen_script;
 use file_numbers::node_file;
@@ -11,28 +9,30 @@ use rec_words::Rec;
 use run_tiers::Run;
 use shelf_memory::{Bench, Choice};
 use std::alloc::Global;
+use std::process::Abort;
 use std::test::Fail;
 use sweep_checkpoint::load;
 use sweep_core::Checkpoint;
 
-/// How many records a room has at most.
-const MOST_ROOM: usize = 4_194_304;
-
 /// The room of a run: the least one, or the largest one.
-#[derive(Clone, Copy, Debug, PartialEq, Eq)]
+#[derive(Clone, Copy, Debug)]
 enum Room {
     Least,
     Largest,
 }
 
 impl Room {
-    fn records(self) -> usize
-        ensures { (16384 ≤ result) × (result ≤ 4194304) }
-    {
+    fn records(self) -> usize {
         match self {
             Room::Least => LEAST_ROOM,
             Room::Largest => MOST_ROOM,
         }
+    }
+
+    /// That room, of the records of the largest one.
+    fn part_of(self, records: &mut [Rec]) -> &mut [Rec] {
+        let count = self.records().min(records.len());
+        &mut records[..count]
     }
 }
 
@@ -41,7 +41,7 @@ impl Room {
 /// as one in the least room that nothing stops.
 type Moved = (&'static [(Room, u64, Choice)], Room, bool);
 
-const MOVED: [Moved; 3] = [
+const MOVED: &[Moved] = &[
     // Arcs are made to their end, and then reduced by a sweep.
     (
         &[
@@ -82,27 +82,23 @@ fn records_in(point: &Checkpoint) -> u64 {
     records
 }
 
-// What the stops leave of a folder, and the room of the last life that was stopped; none where one wasn't.
-fn left_behind(
+// The room of the last life that was stopped in that folder, which is what the stops leave; none where one wasn't.
+fn last_stopped(
     alloc: Global,
-    folder: &Bench,
     lives: &[(Room, u64, Choice)],
     records: &mut [Rec],
-) -> Result<Option<(Bench, Room)>, Fail>
-    requires room { length records.old ≡ 4194304 }
-{
+    bench: &mut Bench,
+) -> Result<Option<Room>, Fail> {
     let request = equality();
-    let mut bench = copied(alloc, EQUAL, folder)?;
     let mut last = Room::Least;
     for (room, saves, choice) in lives {
-        let part = &mut records[..room.records()];
-        let Some(next) = saved_in(&request, *saves, *choice, part, bench)? else {
+        let part = room.part_of(records);
+        if !is_saved(alloc, &request, *saves, *choice, part, bench)? {
             return Ok(None);
-        };
-        bench = next;
+        }
         last = *room;
     }
-    Ok(Some((bench, last)))
+    Ok(Some(last))
 }
 
 // Whether the last checkpoint of the step was saved in that room, and how many records its runs hold.
@@ -121,9 +117,7 @@ fn ends_as(
     as_many_turns: bool,
     room: &mut [Rec],
     bench: &mut Bench,
-) -> Result<bool, Fail>
-    requires room { (16384 ≤ length room.old) × (length room.old ≤ 4194304) }
-{
+) -> Result<bool, Fail> {
     let wanted = whole.lived.entry;
     let mut entry = live(&equality(), None, room, bench)?.entry;
     let right_turns = if as_many_turns {
@@ -139,23 +133,20 @@ fn ends_as(
 }
 
 // What of a step that goes on in other rooms isn't as it should be.
-fn fault_of(
+fn fault_in(
     alloc: Global,
-    folder: &Bench,
     whole: &Whole,
     moved: Moved,
     records: &mut [Rec],
-) -> Result<Option<&'static str>, Fail>
-    requires room { length records.old ≡ 4194304 }
-{
+    bench: &mut Bench,
+) -> Result<Option<&'static str>, Fail> {
     let (lives, to, as_many_turns) = moved;
-    let Some((mut bench, from)) = left_behind(alloc, folder, lives, records)? else {
+    let Some(from) = last_stopped(alloc, lives, records, bench)? else {
         return Ok(Some("a stop"));
     };
-    let (is_saved, held) = last_in(from, &mut bench)?;
-    let room = &mut records[..to.records()];
-    let ended = ends_as(whole, as_many_turns, room, &mut bench)?;
-    let (is_moved, _) = last_in(to, &mut bench)?;
+    let (is_saved, held) = last_in(from, bench)?;
+    let ended = ends_as(whole, as_many_turns, to.part_of(records), bench)?;
+    let (is_moved, _) = last_in(to, bench)?;
     Ok(if !is_saved {
         Some("the room of the last checkpoint")
     } else if held <= LEAST_ROOM as u64 {
@@ -169,26 +160,49 @@ fn fault_of(
     })
 }
 
+// So it is in a copy of that folder.
+fn fault_of(
+    alloc: Global,
+    folder: &Bench,
+    whole: &Whole,
+    moved: Moved,
+    records: &mut [Rec],
+) -> Result<Option<&'static str>, Fail> {
+    let mut bench = copied(alloc, EQUAL, folder)?;
+    fault_in(alloc, whole, moved, records, &mut bench)
+}
+
 // What the step comes to in the least room, where nothing stops it.
-fn undisturbed(alloc: Global, folder: &Bench, records: &mut [Rec]) -> Result<Whole, Fail>
-    requires room { length records.old ≡ 4194304 }
-{
+fn undisturbed(alloc: Global, folder: &Bench, records: &mut [Rec]) -> Result<Whole, Fail> {
     let bench = copied(alloc, EQUAL, folder)?;
-    let room = &mut records[..Room::Least.records()];
+    let room = Room::Least.part_of(records);
     whole_in(&equality(), room, bench)
+}
+
+// The folder in which all steps before that one are committed.
+fn folder_before(alloc: Global) -> Result<Bench, Fail> {
+    let script = gen_script(alloc, 15)?;
+    committed_to(alloc, script.as_slice(), EQUAL)
+}
+
+// The step goes on in the other room in each case.
+fn goes_on(
+    rt: &impl Abort,
+    alloc: Global,
+    folder: &Bench,
+    records: &mut [Rec],
+) -> Result<(), Fail> {
+    let whole = undisturbed(alloc, folder, records)?;
+    for moved in MOVED {
+        let fault = fault_of(alloc, folder, &whole, *moved, records)?;
+        assert!(rt; fault.is_none(), "{moved:?}: {fault:?}");
+    }
+    Ok(())
 }
 
 #[test]
 fn a_step_goes_on_in_another_room(rt: HostRuntime) -> Result<(), Fail> {
-    let alloc = rt.alloc();
-    let script = gen_script(alloc, 15)?;
-    let folder = committed_to(alloc, script.as_slice(), EQUAL)?;
-    let mut records = vec![in alloc; EMPTY; MOST_ROOM]?;
-    let room = records.as_mut_slice();
-    let whole = undisturbed(alloc, &folder, room)?;
-    for moved in MOVED {
-        let fault = fault_of(alloc, &folder, &whole, moved, room)?;
-        assert!(rt; fault.is_none(), "{moved:?}: {fault:?}");
-    }
-    Ok(())
+    let folder = folder_before(rt.alloc())?;
+    let mut records = vec![in rt.alloc(); EMPTY; MOST_ROOM]?;
+    goes_on(&rt, rt.alloc(), &folder, records.as_mut_slice())
 }

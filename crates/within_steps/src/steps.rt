@@ -21,7 +21,7 @@ pub(crate) const AND: Bin = Bin {
 };
 
 /// A step of that number over diagrams of `n` variables, and the text in which its name and its bits stand.
-#[derive(Clone, Copy, Debug)]
+#[derive(Clone, Copy)]
 pub(crate) struct Request {
     pub(crate) n: u32,
     pub(crate) text: &'static [u8],
@@ -31,7 +31,7 @@ pub(crate) struct Request {
 }
 
 /// Which step is run. In the least room each of them is saved once or more.
-#[derive(Clone, Copy, Debug, PartialEq, Eq)]
+#[derive(Clone, Copy, Debug)]
 pub(crate) enum Tried {
     /// A conjunction whose arcs and whose reduction are each saved several times.
     Both,
@@ -48,7 +48,6 @@ pub(crate) enum Tried {
 impl Tried {
     pub(crate) fn request(self) -> Request
         ensures few { result.n ≤ 20 }
-        ensures number { result.number ≡ 2 }
     {
         match self {
             Tried::Both => Request {

@@ -1,7 +1,7 @@
 //! Steps that are stopped at many of their calls.
-ghost use Rattle.std.specs.Prelude.{◌<◌, ◌≤◌, length};
+ghost use Rattle.std.specs.Prelude.{◌<◌};
 
-use crate::folders::{copied, folder_of};
+use crate::folders::{copied, folder_of, stop};
 use crate::lives::{EMPTY, LEAST_ROOM, Whole, ends_like, is_stopped, whole_in};
 use crate::steps::{NUMBER, Request, Tried};
 use rec_words::Rec;
@@ -25,39 +25,74 @@ const FAR_APART: usize = 500;
 
 const APART: usize = 100;
 
-/// Whether a step in that folder that is stopped behind so many calls ends as one that nothing stops: where it goes on
-/// to its end, and where a second stop comes behind half of the calls that were left.
-pub(crate) fn outlives(
+// Whether a step in that folder, behind a stop, ends as one that nothing stops behind one more stop, which comes behind
+// so many calls.
+fn outlives_another(
+    alloc: Global,
+    request: &Request,
+    whole: &Whole,
+    calls: u64,
+    choice: Choice,
+    room: &mut [Rec],
+    bench: &mut Bench,
+) -> Result<bool, Fail> {
+    let stopped = is_stopped(request, calls, room, bench);
+    stop(alloc, choice, bench)?;
+    Ok(stopped && ends_like(request, whole, room, bench).is_some())
+}
+
+// Whether a step in that folder that is stopped behind so many calls ends as one that nothing stops: where it goes on to
+// its end, and where a second stop comes behind half of the calls that were left.
+fn outlives(
     alloc: Global,
     request: &Request,
     whole: &Whole,
     calls: u64,
     stops: (Choice, Choice),
     room: &mut [Rec],
-    bench: Bench,
-) -> Result<bool, Fail>
-    requires room { (16384 ≤ length room.old) × (length room.old ≤ 4194304) }
-{
-    let mut bench = bench;
-    if !is_stopped(request, calls, room, &mut bench) {
+    bench: &mut Bench,
+) -> Result<bool, Fail> {
+    if !is_stopped(request, calls, room, bench) {
         return Ok(false);
     }
-    let mut next = bench.stop(stops.0)?;
-    let mut other = copied(alloc, request.number, &next)?;
-    if ends_like(request, whole, room, &mut next).is_none() {
+    stop(alloc, stops.0, bench)?;
+    let mut other = copied(alloc, request.number, bench)?;
+    if ends_like(request, whole, room, bench).is_none() {
         return Ok(false);
     }
     let rest = whole.lived.calls.saturating_sub(calls) / 2;
-    if !is_stopped(request, rest, room, &mut other) {
-        return Ok(false);
-    }
-    let mut last = other.stop(stops.1)?;
-    Ok(ends_like(request, whole, room, &mut last).is_some())
+    outlives_another(alloc, request, whole, rest, stops.1, room, &mut other)
 }
 
-/// The first of a step's calls, from one on and so many apart, at which a stop isn't outlived; or the number of its
-/// calls where there is none from that one on.
-pub(crate) fn first_loss(
+// The first of a step's calls, from one on and so many apart, at which a stop isn't outlived; or the number of its calls
+// where there is none from that one on.
+fn first_loss_in(
+    alloc: Global,
+    request: &Request,
+    first: u64,
+    apart: usize,
+    stops: (Choice, Choice),
+    room: &mut [Rec],
+    folder: &Bench,
+) -> Result<Option<u64>, Fail>
+    requires apart { 0 < apart }
+{
+    let whole = whole_in(request, room, copied(alloc, NUMBER, folder)?)?;
+    let calls = whole.lived.calls;
+    if calls <= first {
+        return Ok(Some(calls));
+    }
+    for call in (first..calls).step_by(apart) {
+        let mut bench = copied(alloc, NUMBER, folder)?;
+        if !outlives(alloc, request, &whole, call, stops, room, &mut bench)? {
+            return Ok(Some(call));
+        }
+    }
+    Ok(None)
+}
+
+// So it is of a step in the least room.
+fn first_loss(
     alloc: Global,
     tried: Tried,
     first: u64,
@@ -70,18 +105,7 @@ pub(crate) fn first_loss(
     let folder = folder_of(alloc, tried)?;
     let mut records = vec![in alloc; EMPTY; LEAST_ROOM]?;
     let room = records.as_mut_slice();
-    let whole = whole_in(&request, room, copied(alloc, NUMBER, &folder)?)?;
-    let calls = whole.lived.calls;
-    if calls <= first {
-        return Ok(Some(calls));
-    }
-    for call in (first..calls).step_by(apart) {
-        let bench = copied(alloc, NUMBER, &folder)?;
-        if !outlives(alloc, &request, &whole, call, stops, room, bench)? {
-            return Ok(Some(call));
-        }
-    }
-    Ok(None)
+    first_loss_in(alloc, &request, first, apart, stops, room, &folder)
 }
 
 // The conjunction loses nothing at a stop at one call in each five hundred.

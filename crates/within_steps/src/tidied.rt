@@ -1,6 +1,7 @@
 //! Runs that are stopped once a step that swept is committed, before what it leaves behind is cut: the next run cuts
 //! that.
-use crate::words::are_alike;
+use crate::folders::stop;
+use crate::words::{are_alike, is_run_stopped, whole_run};
 use case_runs::{SMALL, bench_with, run};
 use example_script::gen_script;
 use file_numbers::{CHECKPOINT_PART, STEP_GATE, checkpoint_gate};
@@ -36,36 +37,39 @@ fn left_behind(bench: &Bench) -> u64 {
     count
 }
 
-// What a stop leaves of a run that fails once the file has so many bytes.
-fn stopped_when(alloc: Global, f: FileNo, size: u64, bench: Bench) -> Result<Bench, Fail> {
-    let mut bench = bench;
-    bench.fail_when(f, size);
-    let status = run(alloc, &SMALL, &mut bench);
-    if status != 7 || bench.file(f).len() as u64 != size {
+// Stops a run in that folder once the file has so many bytes. From here on the folder is what the stop leaves.
+fn stop_when(alloc: Global, f: FileNo, size: u64, bench: &mut Bench) -> Result<(), Fail> {
+    if !is_run_stopped(alloc, f, size, bench) || bench.file(f).len() as u64 != size {
         return Err(Fail::from("the run isn't stopped"));
     }
-    Ok(bench.stop(Choice::Present)?)
+    stop(alloc, Choice::Present, bench)
 }
 
 // How many of these files there are behind a stop that comes once the step is committed, and behind the next run, where
 // this one ends as one that nothing stops.
+fn counts_in(
+    alloc: Global,
+    goes_on: bool,
+    whole: &Bench,
+    bench: &mut Bench,
+) -> Result<(u64, Option<u64>), Fail> {
+    if goes_on {
+        stop_when(alloc, checkpoint_gate(AT_WORK), 2, bench)?;
+    }
+    stop_when(alloc, STEP_GATE, u64::from(AT_WORK) + 1, bench)?;
+    let before = left_behind(bench);
+    let ends = run(alloc, &SMALL, bench) == 0
+        && bench.said().starts_with(RESUMED)
+        && are_alike(bench, whole);
+    let behind = left_behind(bench);
+    Ok((before, if ends { Some(behind) } else { None }))
+}
+
 fn counts(alloc: Global, goes_on: bool) -> Result<(u64, Option<u64>), Fail> {
     let script = gen_script(alloc, SIZE)?;
-    let mut whole = bench_with(alloc, script.as_slice(), None)?;
-    if run(alloc, &SMALL, &mut whole) != 0 {
-        return Err(Fail::from("the run isn't done"));
-    }
+    let whole = whole_run(alloc, script.as_slice())?;
     let mut bench = bench_with(alloc, script.as_slice(), None)?;
-    if goes_on {
-        bench = stopped_when(alloc, checkpoint_gate(AT_WORK), 2, bench)?;
-    }
-    let mut bench = stopped_when(alloc, STEP_GATE, u64::from(AT_WORK) + 1, bench)?;
-    let before = left_behind(&bench);
-    let ends = run(alloc, &SMALL, &mut bench) == 0
-        && bench.said().starts_with(RESUMED)
-        && are_alike(&bench, &whole);
-    let behind = left_behind(&bench);
-    Ok((before, if ends { Some(behind) } else { None }))
+    counts_in(alloc, goes_on, &whole, &mut bench)
 }
 
 #[test]

@@ -1,12 +1,12 @@
 //! Steps of the example script, and whole runs of it.
-ghost use Rattle.std.specs.Prelude.{◌≤◌, length};
-
-use crate::lives::{EMPTY, LEAST_ROOM, Lived, ends_like, is_stopped, whole_in};
+use crate::folders::stop;
+use crate::lives::{EMPTY, LEAST_ROOM, Lived, Whole, ends_like, is_stopped, whole_in};
 use crate::steps::{AND, Request};
 use bool_tables::{Planned, Step};
 use case_runs::{SMALL, bench_with, run};
 use example_script::gen_script;
 use file_numbers::{CATALOGUE, JOB, JOB_GATE, STEP_GATE, checkpoint_gate, node_file};
+use rec_words::Rec;
 use script_reader::read_script;
 use shelf_memory::{Bench, Choice};
 use shelf_model::FileNo;
@@ -45,14 +45,46 @@ fn has_step(alloc: Global, script: &[u8], request: &Request) -> Result<bool, Fai
     Ok(plan.n == request.n && planned.is_some_and(|p| p.step == request.planned.step))
 }
 
+/// Whether a run is stopped, where each call fails once a file has so many bytes.
+pub(crate) fn is_run_stopped(alloc: Global, file: FileNo, size: u64, bench: &mut Bench) -> bool {
+    bench.fail_when(file, size);
+    run(alloc, &SMALL, bench) == 7
+}
+
 /// A folder in which a run of the script has committed all steps before that one, as it is read.
 pub(crate) fn committed_to(alloc: Global, script: &[u8], step: u32) -> Result<Bench, Fail> {
     let mut bench = bench_with(alloc, script, None)?;
-    bench.fail_when(STEP_GATE, u64::from(step));
-    if run(alloc, &SMALL, &mut bench) != 7 {
+    if !is_run_stopped(alloc, STEP_GATE, u64::from(step), &mut bench) {
         return Err(Fail::from("the run isn't stopped"));
     }
-    Ok(bench.stop(Choice::Present)?)
+    stop(alloc, Choice::Present, &mut bench)?;
+    Ok(bench)
+}
+
+/// A folder in which a run of the script ended, that nothing stopped.
+pub(crate) fn whole_run(alloc: Global, script: &[u8]) -> Result<Bench, Fail> {
+    let mut bench = bench_with(alloc, script, None)?;
+    if run(alloc, &SMALL, &mut bench) != 0 {
+        return Err(Fail::from("the run isn't done"));
+    }
+    Ok(bench)
+}
+
+// What the life of a step in that folder came to behind a stop that comes behind so many calls, if it ends like one that
+// nothing stops.
+fn life_behind(
+    alloc: Global,
+    request: &Request,
+    whole: &Whole,
+    calls: u64,
+    room: &mut [Rec],
+    bench: &mut Bench,
+) -> Result<Option<Lived>, Fail> {
+    if !is_stopped(request, calls, room, bench) {
+        return Ok(None);
+    }
+    stop(alloc, Choice::Present, bench)?;
+    Ok(ends_like(request, whole, room, bench))
 }
 
 // Where the last call of a step and all behind it fail: how many calls the step makes that nothing stops, and what the
@@ -61,21 +93,15 @@ fn stopped_at_its_end(
     alloc: Global,
     script: &[u8],
     request: &Request,
-) -> Result<Option<(u64, Lived)>, Fail> {
-    let number = request.number;
+) -> Result<(u64, Option<Lived>), Fail> {
     let mut records = vec![in alloc; EMPTY; LEAST_ROOM]?;
     let room = records.as_mut_slice();
-    let whole = whole_in(request, room, committed_to(alloc, script, number)?)?;
+    let whole = whole_in(request, room, committed_to(alloc, script, request.number)?)?;
     let calls = whole.lived.calls;
-    let mut bench = committed_to(alloc, script, number)?;
-    if !is_stopped(request, calls.saturating_sub(1), room, &mut bench) {
-        return Ok(None);
-    }
-    let mut next = bench.stop(Choice::Present)?;
-    let Some(lived) = ends_like(request, &whole, room, &mut next) else {
-        return Ok(None);
-    };
-    Ok(Some((calls, lived)))
+    let mut bench = committed_to(alloc, script, request.number)?;
+    let last = calls.saturating_sub(1);
+    let lived = life_behind(alloc, request, &whole, last, room, &mut bench)?;
+    Ok((calls, lived))
 }
 
 // So the largest step of the script of size 15 goes on with less than half of its calls.
@@ -83,10 +109,15 @@ fn half_is_saved(alloc: Global) -> Result<bool, Fail> {
     let script = gen_script(alloc, 15)?;
     let script = script.as_slice();
     let request = equality();
-    let Some((calls, lived)) = stopped_at_its_end(alloc, script, &request)? else {
-        return Ok(false);
-    };
-    Ok(has_step(alloc, script, &request)? && lived.entry.count == NODES && lived.calls < calls / 2)
+    let (calls, lived) = stopped_at_its_end(alloc, script, &request)?;
+    Ok(match lived {
+        Some(lived) => {
+            lived.entry.count == NODES
+                && lived.calls < calls / 2
+                && has_step(alloc, script, &request)?
+        }
+        None => false,
+    })
 }
 
 #[test]
@@ -106,11 +137,12 @@ fn made_is_saved(
     request: &Request,
     nodes: u64,
 ) -> Result<bool, Fail> {
-    let Some((calls, lived)) = stopped_at_its_end(alloc, script, request)? else {
-        return Ok(false);
-    };
+    let (calls, lived) = stopped_at_its_end(alloc, script, request)?;
     let pieces = nodes.saturating_add(1).saturating_mul(24) / 2048;
-    Ok(lived.entry.count == nodes && lived.calls < calls.min(pieces))
+    Ok(match lived {
+        Some(lived) => lived.entry.count == nodes && lived.calls < calls.min(pieces),
+        None => false,
+    })
 }
 
 /// The step that tells whether two words of twelve bits are equal.
@@ -244,11 +276,10 @@ fn run_goes_on(
 ) -> Result<bool, Fail> {
     let (file, size, choice) = moment;
     let mut bench = bench_with(alloc, script, None)?;
-    bench.fail_when(file, size);
-    let stopped = run(alloc, &SMALL, &mut bench) == 7;
-    let mut next = bench.stop(choice)?;
-    let ended = run(alloc, &SMALL, &mut next) == 0;
-    Ok(stopped && ended && are_alike(&next, whole))
+    let stopped = is_run_stopped(alloc, file, size, &mut bench);
+    stop(alloc, choice, &mut bench)?;
+    let ended = run(alloc, &SMALL, &mut bench) == 0;
+    Ok(stopped && ended && are_alike(&bench, whole))
 }
 
 // So it is at each of these moments.
@@ -259,9 +290,7 @@ fn runs_go_on(
 ) -> Result<(), Fail> {
     let script = gen_script(alloc, 14)?;
     let script = script.as_slice();
-    let mut whole = bench_with(alloc, script, None)?;
-    let status = run(alloc, &SMALL, &mut whole);
-    assert!(rt; status == 0);
+    let whole = whole_run(alloc, script)?;
     for moment in moments {
         let goes_on = run_goes_on(alloc, script, &whole, *moment)?;
         assert!(rt; goes_on, "{moment:?}");
