@@ -97,3 +97,16 @@ fn says_the_answers_of_a_line_behind_its_last_step(rt: HostRuntime) -> Result<()
     }
     Ok(())
 }
+
+// Once the gate has more than the six steps that are committed by themselves or with a drop, it has all.
+#[test]
+fn commits_the_steps_together_that_are_made_at_once(rt: HostRuntime) -> Result<(), Fail> {
+    let acts = [
+        Act::Put("script", SUM_CARRY.script),
+        Act::Put("netlist", SUM_CARRY.netlist),
+        Act::FailWhen(STEP_GATE, 7),
+        Act::Run(&NET, 7, b"start 2\n"),
+        Act::Length(STEP_GATE, 36),
+    ];
+    goes(&rt, rt.alloc(), "the sum and the carry", &acts)
+}
