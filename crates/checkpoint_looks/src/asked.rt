@@ -21,6 +21,14 @@ fn join_of(kind: Quant) -> Bin {
     }
 }
 
+// The value of an operator over two values, of which one may be refused.
+fn joined_of(op: Bin, a: Result<bool, Wrong>, b: Result<bool, Wrong>) -> Result<bool, Wrong> {
+    match (a, b) {
+        (Ok(a), Ok(b)) => Ok(op.value(a, b)),
+        (Err(wrong), _) | (_, Err(wrong)) => Err(wrong),
+    }
+}
+
 impl Meant {
     // The words of an operation of its own kind.
     fn own_words(self) -> [u64; 4] {
@@ -119,7 +127,7 @@ impl<'a> Asked<'a> {
 
     // The value of an operator over the first two members.
     fn joined(&self, op: Bin, at: Assignment) -> Result<bool, Wrong> {
-        Ok(op.value(self.member(0, at)?, self.member(1, at)?))
+        joined_of(op, self.member(0, at), self.member(1, at))
     }
 
     // The value of the second member or of the third one, as the first one has it.
@@ -131,8 +139,8 @@ impl<'a> Asked<'a> {
     // The value of a quantifier over the first two members, at both values of a variable.
     fn quantified(&self, kind: Quant, variable: u64, at: Assignment) -> Result<bool, Wrong> {
         let op = join_of(kind);
-        let low = self.joined(op, at.with(variable, false))?;
-        Ok(op.value(low, self.joined(op, at.with(variable, true))?))
+        let low = self.joined(op, at.with(variable, false));
+        joined_of(op, low, self.joined(op, at.with(variable, true)))
     }
 
     // Whether the two pointers are those of a node of the key's level that comes before the key.

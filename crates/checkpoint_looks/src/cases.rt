@@ -5,9 +5,9 @@ use crate::asked::Meant;
 use crate::diagrams::Assignment;
 use crate::shapes::{Shape, value_at};
 use arc_file::Unreduced;
-use case_lives::{ENDS, INNER};
+use case_lives::{ENDS, INNER, TEXT_AT};
 use case_tables::{
-    Random, SECOND, THIRD, bench_of, choice_of, product_of, put_bytes, quantified_of, restricted_of,
+    Random, SECOND, THIRD, choice_of, product_of, put_bytes, quantified_of, restricted_of,
 };
 use rec_words::Ptr;
 use shelf_memory::Bench;
@@ -16,7 +16,7 @@ use std::alloc::{AllocError, Global};
 use std::test::Fail;
 
 /// A word of a script, behind which the bits of an evaluation stand.
-const BEFORE: [u8; 5] = *b"eval ";
+const TEXT: [u8; 17] = *b"eval 000000000000";
 
 /// Three operators: of "or", of "left and not right", whose arcs an implication makes, and of "not left".
 const OR: u32 = 0b1110;
@@ -65,20 +65,10 @@ pub(crate) struct Plan {
 
 /// Three tables of as many variables.
 #[derive(Drop)]
-struct Tables {
+pub(crate) struct Tables {
     first: Vec<bool>,
     second: Vec<bool>,
     third: Vec<bool>,
-}
-
-/// A plan with its tables, the text that its sweep reads, and the table that it makes or reads from.
-#[derive(Drop)]
-pub(crate) struct Case {
-    pub(crate) kind: Kind,
-    variables: u32,
-    tables: Tables,
-    pub(crate) text: Vec<u8>,
-    pub(crate) wanted: Vec<bool>,
 }
 
 // What a table has where the last variable is 1, and the last variable has a value itself.
@@ -126,11 +116,10 @@ fn second_of(
 }
 
 impl Tables {
-    // Those of a kind of sweep, from random ones of n variables.
-    fn of(alloc: Global, kind: Kind, n: u32, seed: u64) -> Result<Tables, AllocError>
-        requires { n ≤ 12 }
-    {
-        let mut random = Random::new(seed);
+    /// Those of a plan, from random ones.
+    pub(crate) fn of(alloc: Global, plan: Plan) -> Result<Tables, AllocError> {
+        let (kind, n) = (plan.kind, plan.variables());
+        let mut random = Random::new(plan.seed);
         let first = first_of(alloc, kind, n, &mut random)?;
         let second = second_of(alloc, kind, n, first.as_slice(), &mut random)?;
         let third = random.table(alloc, n, usize::MAX)?;
@@ -141,39 +130,85 @@ impl Tables {
         })
     }
 
-    fn slices(&self) -> [&[bool]; 3] {
+    /// The three of them.
+    pub(crate) fn slices(&self) -> [&[bool]; 3] {
         [
             self.first.as_slice(),
             self.second.as_slice(),
             self.third.as_slice(),
         ]
     }
-}
 
-// What a sweep of a kind makes of three tables of n variables, or the first one, which it reads.
-fn wanted_of(
-    alloc: Global,
-    kind: Kind,
-    n: u32,
-    tables: [&[bool]; 3],
-) -> Result<Vec<bool>, AllocError> {
-    let [first, second, third] = tables;
-    match kind.operation() {
-        Some(Meant::Operator(digits)) => product_of(alloc, digits, first, second),
-        Some(Meant::Choice) => choice_of(alloc, first, second, third),
-        Some(Meant::Quantifier(kind, level)) => quantified_of(alloc, n, kind, level, first),
-        Some(Meant::Restriction(level, value)) => restricted_of(alloc, n, level, value, first),
-        None => Vec::from_slice(alloc, first),
+    /// What the sweep of a plan makes of them, or the first one, which it reads.
+    pub(crate) fn wanted(&self, alloc: Global, plan: Plan) -> Result<Vec<bool>, AllocError> {
+        let [first, second, third] = self.slices();
+        let n = plan.variables();
+        match plan.kind.operation() {
+            Some(Meant::Operator(digits)) => product_of(alloc, digits, first, second),
+            Some(Meant::Choice) => choice_of(alloc, first, second, third),
+            Some(Meant::Quantifier(kind, level)) => quantified_of(alloc, n, kind, level, first),
+            Some(Meant::Restriction(level, value)) => restricted_of(alloc, n, level, value, first),
+            None => Vec::from_slice(alloc, first),
+        }
+    }
+
+    /// The answer that a sweep has to give of which that table is wanted, if it is to give one.
+    pub(crate) fn answer(&self, kind: Kind, wanted: &[bool]) -> Option<bool> {
+        match kind {
+            Kind::Implication(_) => Some(!has_one(wanted)),
+            Kind::Comparison(_) => Some(self.first.as_slice() == self.second.as_slice()),
+            Kind::Value(place) => self.first.as_slice().get(place).copied(),
+            _ => None,
+        }
+    }
+
+    /// Puts the arcs that a plan reduces, if it does.
+    pub(crate) fn put_arcs(
+        &self,
+        alloc: Global,
+        plan: Plan,
+        bench: &mut Bench,
+    ) -> Result<(), Fail> {
+        let n = plan.variables();
+        match plan.kind {
+            Kind::Reduction(shape) => {
+                put_made(bench, INNER, shape.inner(alloc, n))?;
+                put_made(bench, ENDS, shape.ends(alloc, n, self.first.as_slice()))
+            }
+            _ => Ok(()),
+        }
     }
 }
 
-// The text whose bits are those of a place.
-fn text_of(alloc: Global, at: Assignment) -> Result<Vec<u8>, AllocError> {
-    let mut text = Vec::from_slice(alloc, &BEFORE)?;
-    for level in 0..at.variables {
-        text.push(if at.bit(u64::from(level)) { b'1' } else { b'0' })?;
+impl Plan {
+    /// How many variables its tables have.
+    pub(crate) fn variables(self) -> u32
+        ensures { result ≤ 12 }
+    {
+        self.variables.min(12)
     }
-    Ok(text)
+
+    /// The text that its sweep reads, with the bits of its place; those behind its variables are 0.
+    pub(crate) fn text(self) -> [u8; 17] {
+        let at = Assignment {
+            variables: self.variables(),
+            place: self.kind.place(),
+        };
+        let mut text = TEXT;
+        for level in 0..12u32 {
+            if at.bit(u64::from(level)) {
+                put_one(&mut text, level);
+            }
+        }
+        text
+    }
+}
+
+// Makes the bit of a level of a text 1.
+fn put_one(text: &mut [u8], level: u32) {
+    if let Some(bit) = text.get_mut(level.saturating_add(TEXT_AT) as usize) {
+        *bit = b'1';
+    }
 }
 
 impl Kind {
@@ -194,6 +229,25 @@ impl Kind {
         }
     }
 
+    /// The file of its third operand. The others are the first two.
+    pub(crate) fn third(self) -> FileNo {
+        match self {
+            Kind::Implication(_) => SECOND,
+            _ => THIRD,
+        }
+    }
+
+    /// The operation whose checkpoints its sweep saves, and whether their words are those of a step's operation.
+    pub(crate) fn saved_operation(self) -> Option<(Meant, bool)> {
+        match self {
+            Kind::OfStep(meant) => Some((meant, true)),
+            _ => match self.operation() {
+                Some(meant) => Some((meant, false)),
+                None => None,
+            },
+        }
+    }
+
     /// The number of its sweep in a step.
     pub(crate) fn sweep(self) -> u32
         ensures { result ≤ 1 }
@@ -205,86 +259,14 @@ impl Kind {
     }
 }
 
-// Puts the arcs of a diagram of that shape.
-fn put_arcs(
-    alloc: Global,
-    shape: Shape,
-    n: u32,
-    table: &[bool],
+// Puts a file of bytes that were made.
+fn put_made(
     bench: &mut Bench,
+    file: FileNo,
+    made: Result<Vec<u8>, AllocError>,
 ) -> Result<(), Fail> {
-    let inner = shape.inner(alloc, n)?;
-    put_bytes(bench, INNER, inner.as_slice())?;
-    let ends = shape.ends(alloc, n, table)?;
-    put_bytes(bench, ENDS, ends.as_slice())
-}
-
-impl Case {
-    /// That of a plan.
-    pub(crate) fn of(alloc: Global, plan: Plan) -> Result<Case, AllocError> {
-        let (kind, n) = (plan.kind, plan.variables.min(12));
-        let at = Assignment {
-            variables: n,
-            place: kind.place(),
-        };
-        let text = text_of(alloc, at)?;
-        let tables = Tables::of(alloc, kind, n, plan.seed)?;
-        let wanted = wanted_of(alloc, kind, n, tables.slices())?;
-        Ok(Case {
-            kind,
-            variables: n,
-            tables,
-            text,
-            wanted,
-        })
-    }
-
-    /// How many variables its tables have.
-    pub(crate) fn variables(&self) -> u32
-        ensures { result ≤ 12 }
-    {
-        self.variables.min(12)
-    }
-
-    /// A folder with its files.
-    pub(crate) fn bench(&self, alloc: Global) -> Result<Bench, Fail> {
-        let n = self.variables();
-        let mut bench = bench_of(alloc, n, self.tables.slices())?;
-        if let Kind::Reduction(shape) = self.kind {
-            put_arcs(alloc, shape, n, self.tables.first.as_slice(), &mut bench)?;
-        }
-        Ok(bench)
-    }
-
-    /// The answer that its sweep has to give, if it is to give one.
-    pub(crate) fn answer(&self) -> Option<bool> {
-        let [first, second, _third] = self.tables.slices();
-        match self.kind {
-            Kind::Implication(_) => Some(!has_one(self.wanted.as_slice())),
-            Kind::Comparison(_) => Some(first == second),
-            Kind::Value(place) => first.get(place).copied(),
-            _ => None,
-        }
-    }
-
-    /// The file of its third operand. The others are the first two.
-    pub(crate) fn third(&self) -> FileNo {
-        match self.kind {
-            Kind::Implication(_) => SECOND,
-            _ => THIRD,
-        }
-    }
-
-    /// The operation whose checkpoints its sweep saves, and whether their words are those of a step's operation.
-    pub(crate) fn saved_operation(&self) -> Option<(Meant, bool)> {
-        match self.kind {
-            Kind::OfStep(meant) => Some((meant, true)),
-            kind => match kind.operation() {
-                Some(meant) => Some((meant, false)),
-                None => None,
-            },
-        }
-    }
+    let bytes = made?;
+    put_bytes(bench, file, bytes.as_slice())
 }
 
 /// The arcs that stand in a folder, whose root is the first node of level 0.

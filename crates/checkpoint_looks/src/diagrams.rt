@@ -89,17 +89,24 @@ fn node_in(bytes: &[u8]) -> PlainNode {
 }
 
 impl NodeList {
-    /// The nodes that stand in the bytes of a file, and behind them its trailer.
-    pub(crate) fn of(alloc: Global, bytes: &[u8]) -> Result<NodeList, Wrong> {
-        let mut nodes = Vec::new(alloc);
-        for three in bytes.chunks_exact(24) {
-            put(&mut nodes, node_in(three))?;
+    /// No nodes.
+    pub(crate) fn empty(alloc: Global) -> NodeList {
+        NodeList {
+            nodes: Vec::new(alloc),
+            root: NO,
         }
-        let root = match nodes.pop() {
-            Some(trailer) => trailer.uid,
-            None => NO,
-        };
-        Ok(NodeList { nodes, root })
+    }
+
+    /// Puts the nodes that stand in the bytes of a file behind others. Behind them comes its trailer.
+    pub(crate) fn read(&mut self, bytes: &[u8]) -> Result<(), Wrong> {
+        let mut all = Ok(());
+        for three in bytes.chunks_exact(24) {
+            all = all.and(put(&mut self.nodes, node_in(three)));
+        }
+        if let Some(trailer) = self.nodes.pop() {
+            self.root = trailer.uid;
+        }
+        all
     }
 
     /// The node of that identifier.
@@ -166,19 +173,19 @@ fn arc_in(bytes: &[u8]) -> PlainArc {
     }
 }
 
-// The arcs that stand in bytes.
-fn arcs_in(alloc: Global, bytes: &[u8]) -> Result<Vec<PlainArc>, Wrong> {
-    let mut arcs = Vec::new(alloc);
+// Puts the arcs that stand in bytes behind others.
+fn add_arcs(bytes: &[u8], into: &mut Vec<PlainArc>) -> Result<(), Wrong> {
+    let mut all = Ok(());
     for two in bytes.chunks_exact(16) {
-        put(&mut arcs, arc_in(two))?;
+        all = all.and(put(into, arc_in(two)));
     }
-    Ok(arcs)
+    all
 }
 
-// The first arcs of a file, so many.
-fn first_arcs(alloc: Global, bytes: &[u8], count: u64) -> Result<Vec<PlainArc>, Wrong> {
+// Puts the first arcs of a file, so many, behind others.
+fn add_first(bytes: &[u8], count: u64, into: &mut Vec<PlainArc>) -> Result<(), Wrong> {
     match bytes.get(0..(count as usize).saturating_mul(16)) {
-        Some(front) => arcs_in(alloc, front),
+        Some(front) => add_arcs(front, into),
         None => Err(Wrong::Arcs),
     }
 }
@@ -238,13 +245,15 @@ impl ArcLists {
     /// The first arcs of the two files of a sweep, so many of each.
     pub(crate) fn of(
         alloc: Global,
-        inner: u64,
-        ends: u64,
+        inner_count: u64,
+        ends_count: u64,
         bench: &Bench,
     ) -> Result<ArcLists, Wrong> {
-        let inner = first_arcs(alloc, bench.file(INNER), inner)?;
-        let ends = first_arcs(alloc, bench.file(ENDS), ends)?;
-        Ok(ArcLists { inner, ends })
+        let mut inner = Vec::new(alloc);
+        let mut ends = Vec::new(alloc);
+        add_first(bench.file(INNER), inner_count, &mut inner)
+            .and(add_first(bench.file(ENDS), ends_count, &mut ends))
+            .and(Ok(ArcLists { inner, ends }))
     }
 
     /// The arcs themselves.
@@ -278,7 +287,10 @@ impl<'a> Arcs<'a> {
 
     /// Where it leads; refused where that is nowhere.
     pub(crate) fn only(&self, side: u64) -> Result<u64, Wrong> {
-        self.target(side)?.ok_or(Wrong::Side)
+        match self.target(side) {
+            Ok(Some(target)) => Ok(target),
+            _ => Err(Wrong::Side),
+        }
     }
 
     // Where a pointer leads at an assignment: along its node's side, or no further.
@@ -294,7 +306,10 @@ impl<'a> Arcs<'a> {
     pub(crate) fn value(&self, pointer: u64, at: Assignment) -> Result<bool, Wrong> {
         let mut here = pointer;
         for _level in 0..at.variables {
-            here = self.next(here, at)?;
+            match self.next(here, at) {
+                Ok(next) => here = next,
+                Err(wrong) => return Err(wrong),
+            }
         }
         truth_of(here).ok_or(Wrong::Side)
     }

@@ -44,11 +44,12 @@ struct Picture<'a> {
 // Refuses a checkpoint whose words from 40 on aren't these.
 fn check_words(point: Point<'_>, words: &[u64]) -> Result<(), Wrong> {
     let mut at = 40usize;
+    let mut all = Ok(());
     for word in words {
-        point.check_word(at, *word)?;
+        all = all.and(point.check_word(at, *word));
         at = at.saturating_add(1);
     }
-    Ok(())
+    all
 }
 
 /// The form of its words. The file of the third operand is named from place 10 on.
@@ -68,8 +69,7 @@ fn check_task(task: &TopDownTask, point: Point<'_>) -> Result<(), Wrong> {
         .and(point.check_word(10, u64::from(task.third.step)))
         .and(point.check_word(11, task.third.part))
         .and(point.check_word(20, 1))
-        .and(point.check_no_runs(1))
-        .and(point.check_no_runs(2))
+        .and(point.check_no_runs(1, 2))
         .and(check_words(point, &task.meant.words(task.of_step)))
 }
 
@@ -84,14 +84,16 @@ enum Lead<'a> {
 
 // The ask of a side; refused where there are two.
 fn ask_of<'a>(waiting: &[Record<'a>], side: u64) -> Result<Option<Record<'a>>, Wrong> {
-    let mut found = None;
+    let mut found = Ok(None);
     for ask in waiting {
         if ask.word(FORM) == side {
-            ask_for(found.is_none(), Wrong::Side)?;
-            found = Some(*ask);
+            found = match found {
+                Ok(None) => Ok(Some(*ask)),
+                _ => Err(Wrong::Side),
+            };
         }
     }
-    Ok(found)
+    found
 }
 
 // Whether a node lies behind the key of no ask.
@@ -115,18 +117,17 @@ fn may_be_at_hand(waiting: &[Record<'_>], list: &NodeList, hand: Option<u64>) ->
     }
 }
 
-// The nodes that have a number: the root, and those that arcs lead to, which ascend.
-fn numbered(alloc: Global, root: u64, inner: &[PlainArc]) -> Result<Vec<u64>, Wrong> {
-    let mut nodes = Vec::new(alloc);
+// Puts the nodes that have a number behind others: the root, and those that arcs lead to, which ascend.
+fn add_numbered(root: u64, inner: &[PlainArc], into: &mut Vec<u64>) -> Result<(), Wrong> {
     let mut last = root;
-    put(&mut nodes, last)?;
+    let mut all = put(into, last);
     for arc in inner {
         if arc.target != last {
             last = arc.target;
-            put(&mut nodes, last)?;
+            all = all.and(put(into, last));
         }
     }
-    Ok(nodes)
+    all
 }
 
 // Whether a node's number is the one behind that of another one, or the first one of a deeper level.
@@ -224,9 +225,10 @@ impl<'a> Picture<'a> {
     fn node_value(&self, node: u64, at: Assignment) -> Result<bool, Wrong> {
         let mut here = node;
         for _level in 0..at.variables {
-            match self.lead_of(side_of(here, at.bit(level_of(here))))? {
-                Lead::Asks(ask) => return self.asked_value(ask, at),
-                Lead::To(target) => here = target,
+            match self.lead_of(side_of(here, at.bit(level_of(here)))) {
+                Ok(Lead::Asks(ask)) => return self.asked_value(ask, at),
+                Ok(Lead::To(target)) => here = target,
+                Err(wrong) => return Err(wrong),
             }
             if let Some(value) = truth_of(here) {
                 return Ok(value);
@@ -249,23 +251,23 @@ impl<'a> Picture<'a> {
     // Refuses it where it stands for another table.
     fn check_table(&self, wanted: &[bool]) -> Result<(), Wrong> {
         let mut place = 0usize;
+        let mut all = Ok(());
         for value in wanted {
-            check_equal(self.value(self.at(place)), Ok(*value))?;
+            all = all.and(check_equal(self.value(self.at(place)), Ok(*value)));
             place = place.saturating_add(1);
         }
-        Ok(())
+        all
     }
 
     // Refuses it where the tuple that was numbered last hasn't the function of its node, or isn't asked for.
     fn check_newest(&self, newest: Record<'a>, places: usize) -> Result<(), Wrong> {
+        let mut all = ask_for(self.asks(newest), Wrong::Waiting);
         for place in 0..places {
             let at = self.at(place);
-            check_equal(
-                self.asked_value(newest, at),
-                self.node_value(node_of(newest), at),
-            )?;
+            let value = self.node_value(node_of(newest), at);
+            all = all.and(check_equal(self.asked_value(newest, at), value));
         }
-        ask_for(self.asks(newest), Wrong::Waiting)
+        all
     }
 
     // Refuses an operand's node at hand that isn't there, or lies behind the key of an ask.
@@ -286,14 +288,15 @@ impl<'a> Picture<'a> {
 
     // Refuses asks that aren't sound, or come no later than the last one that was taken.
     fn check_asks(&self) -> Result<(), Wrong> {
+        let mut all = Ok(());
         for ask in self.waiting {
             let side = ask.word(FORM);
             let above = level_of(side / 2) < level_of(ask.word(0));
             let known = side == NOBODY || self.newest.is_some() && above;
             let sound = known && self.is_later(*ask) && self.asks(*ask);
-            ask_for(sound, Wrong::Waiting)?;
+            all = all.and(ask_for(sound, Wrong::Waiting));
         }
-        Ok(())
+        all
     }
 
     // Whether both sides of a node lead somewhere.
@@ -336,8 +339,9 @@ impl<'a> Picture<'a> {
         taken: Record<'a>,
         places: usize,
     ) -> Result<(), Wrong> {
-        let nodes = numbered(alloc, self.root, self.arcs.inner)?;
-        check_numbers(self.root, nodes.as_slice(), node_of(newest))
+        let mut nodes = Vec::new(alloc);
+        add_numbered(self.root, self.arcs.inner, &mut nodes)
+            .and(check_numbers(self.root, nodes.as_slice(), node_of(newest)))
             .and(self.check_sides(nodes.as_slice()))
             .and(check_answered(taken, newest, self.arcs.inner))
             .and(self.check_newest(newest, places))
@@ -371,9 +375,9 @@ pub(crate) fn check_top_down(
     point: Point<'_>,
     bench: &Bench,
 ) -> Result<(), Wrong> {
-    check_task(task, point)?;
+    let mut waiting = Vec::new(alloc);
+    check_task(task, point).and(point.add_waiting(0, 8, bench, &mut waiting))?;
     let lists = ArcLists::of(alloc, point.carried(16), point.carried(19), bench)?;
-    let waiting = point.waiting(alloc, 0, 8, bench)?;
     let picture = Picture {
         variables: task.variables,
         meant: task.meant,

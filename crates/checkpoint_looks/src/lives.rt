@@ -1,8 +1,8 @@
-//! A life of the sweep of a case, which is saved behind its turns.
+//! A life of the sweep of a plan, which is saved behind its turns.
 ghost use Rattle.std.specs.Prelude.{◌≡◌, ◌≤◌, length};
 
 use crate::asked::Meant;
-use crate::cases::{Case, Kind, arcs_in};
+use crate::cases::{Kind, Plan, arcs_in};
 use case_lives::{Lived, STEP, Way, compare, copy, evaluate, going_from, imply, operate, reduce};
 use case_tables::operator;
 use rec_words::Rec;
@@ -51,9 +51,9 @@ fn step_of(meant: Meant) -> StepOperation {
     }
 }
 
-// The life of a case.
-fn live_from(
-    case: &Case,
+// An evaluation, whose text ends behind its bits.
+fn evaluate_text(
+    plan: Plan,
     way: Way,
     going: &mut Going,
     room: &mut [Rec],
@@ -63,14 +63,34 @@ fn live_from(
     requires step { going.old.step ≡ 7 }
     requires sweep { going.old.sweep ≤ 1 }
 {
-    let n = case.variables();
-    match case.kind {
+    let n = plan.variables();
+    let text = plan.text();
+    match text.get(0..5 + n as usize) {
+        Some(text) => evaluate(n, text, way, going, room, bench),
+        None => Ok(None),
+    }
+}
+
+// The life of a plan.
+fn live_from(
+    plan: Plan,
+    way: Way,
+    going: &mut Going,
+    room: &mut [Rec],
+    bench: &mut Bench,
+) -> Result<Option<Lived>, SortFault>
+    requires room { 16384 ≤ length room.old }
+    requires step { going.old.step ≡ 7 }
+    requires sweep { going.old.sweep ≤ 1 }
+{
+    let n = plan.variables();
+    match plan.kind {
         Kind::Own(meant) => operate_own(meant, n, way, going, room, bench),
         Kind::OfStep(meant) => operate(step_of(meant), n, way, going, room, bench),
         Kind::Implication(_) => imply(n, way, going, room, bench),
         Kind::Reduction(_) => reduce(n, arcs_in(bench), way, going, room, bench),
         Kind::Comparison(_) => compare(n, way, going, room, bench),
-        Kind::Value(_) => evaluate(n, case.text.as_slice(), way, going, room, bench),
+        Kind::Value(_) => evaluate_text(plan, way, going, room, bench),
         Kind::Copy(pieces) => copy(pieces, way, going, room, bench),
     }
 }
@@ -78,7 +98,7 @@ fn live_from(
 /// A life of at most so many turns, from the step's last checkpoint if there is one. None is answered where that isn't
 /// one of such a sweep.
 pub(crate) fn live_on(
-    case: &Case,
+    plan: Plan,
     most: u64,
     room: &mut [Rec],
     bench: &mut Bench,
@@ -86,6 +106,6 @@ pub(crate) fn live_on(
     requires { 16384 ≤ length room.old }
 {
     let last = load(STEP, bench)?;
-    let mut going = going_from(case.kind.sweep(), BUDGET, last);
-    live_from(case, Way::Saved(most), &mut going, room, bench)
+    let mut going = going_from(plan.kind.sweep(), BUDGET, last);
+    live_from(plan, Way::Saved(most), &mut going, room, bench)
 }

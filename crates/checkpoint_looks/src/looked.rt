@@ -1,16 +1,16 @@
-//! What the checkpoints of a case are looked at with: what stands in its folder before its sweep begins.
+//! What the checkpoints of a plan are looked at with: what stands in its folder before its sweep begins.
 ghost use Rattle.std.specs.Prelude.{◌≤◌, length};
 
 use crate::answered::{check_copy, check_same, check_value};
 use crate::asked::{Meant, Operands};
-use crate::cases::{Case, Kind, Plan};
+use crate::cases::{Kind, Plan, Tables};
 use crate::diagrams::{ArcLists, Assignment, NodeList};
 use crate::from_root::{TopDownTask, check_top_down};
 use crate::lives::live_on;
-use crate::reduced::check_reduced;
-use crate::words::{Point, Wrong, ask_for};
-use case_lives::{ENDS, INNER, MADE};
-use case_tables::{FIRST, SECOND, THIRD};
+use crate::reduced::{Diagram, check_reduced};
+use crate::words::{Point, Wrong};
+use case_lives::{ENDS, INNER, Lived, MADE};
+use case_tables::{FIRST, SECOND, THIRD, bench_of};
 use rec_words::Rec;
 use shelf_memory::Bench;
 use std::alloc::Global;
@@ -28,14 +28,18 @@ struct Nodes {
 impl Nodes {
     // Those in a folder.
     fn of(alloc: Global, bench: &Bench) -> Result<Nodes, Wrong> {
-        let first = NodeList::of(alloc, bench.file(FIRST))?;
-        let second = NodeList::of(alloc, bench.file(SECOND))?;
-        let third = NodeList::of(alloc, bench.file(THIRD))?;
-        Ok(Nodes {
-            first,
-            second,
-            third,
-        })
+        let mut first = NodeList::empty(alloc);
+        let mut second = NodeList::empty(alloc);
+        let mut third = NodeList::empty(alloc);
+        first
+            .read(bench.file(FIRST))
+            .and(second.read(bench.file(SECOND)))
+            .and(third.read(bench.file(THIRD)))
+            .and(Ok(Nodes {
+                first,
+                second,
+                third,
+            }))
     }
 
     fn operands(&self) -> Operands<'_> {
@@ -47,14 +51,15 @@ impl Nodes {
     }
 }
 
-/// A case with the nodes of the files that its sweep reads, the arcs of a diagram that is reduced, and the answer that
-/// is wanted.
+/// A plan with the table that its sweep makes or reads from, the answer that is wanted, the arcs of a diagram that is
+/// reduced, and the nodes of the files that its sweep reads.
 #[derive(Drop)]
 pub(crate) struct Looked {
-    case: Case,
-    nodes: Nodes,
-    lists: ArcLists,
+    pub(crate) plan: Plan,
+    wanted: Vec<bool>,
     answer: Option<bool>,
+    lists: ArcLists,
+    nodes: Nodes,
 }
 
 // The bytes of a file of nodes without its trailer.
@@ -72,30 +77,52 @@ fn all_arcs(alloc: Global, bench: &Bench) -> Result<ArcLists, Wrong> {
 }
 
 impl Looked {
-    // What stands in the folder of a case.
-    fn in_folder(alloc: Global, case: Case, bench: &Bench) -> Result<Looked, Wrong> {
-        let nodes = Nodes::of(alloc, bench)?;
+    // That of a plan with these tables, whose folder this is.
+    fn in_folder(
+        alloc: Global,
+        plan: Plan,
+        tables: &Tables,
+        bench: &Bench,
+    ) -> Result<Looked, Fail> {
+        let wanted = tables.wanted(alloc, plan)?;
+        let answer = tables.answer(plan.kind, wanted.as_slice());
         let lists = all_arcs(alloc, bench)?;
-        let answer = case.answer();
+        let nodes = Nodes::of(alloc, bench)?;
         Ok(Looked {
-            case,
-            nodes,
-            lists,
+            plan,
+            wanted,
             answer,
+            lists,
+            nodes,
         })
+    }
+
+    // That of a plan with these tables, and the folder in which its sweep begins.
+    fn with(alloc: Global, plan: Plan, tables: &Tables) -> Result<(Looked, Bench), Fail> {
+        let mut bench = bench_of(alloc, plan.variables(), tables.slices())?;
+        tables.put_arcs(alloc, plan, &mut bench)?;
+        let looked = Looked::in_folder(alloc, plan, tables, &bench)?;
+        Ok((looked, bench))
     }
 
     /// That of a plan, and the folder in which its sweep begins.
     pub(crate) fn of(alloc: Global, plan: Plan) -> Result<(Looked, Bench), Fail> {
-        let case = Case::of(alloc, plan)?;
-        let bench = case.bench(alloc)?;
-        let looked = Looked::in_folder(alloc, case, &bench)?;
-        Ok((looked, bench))
+        let tables = Tables::of(alloc, plan)?;
+        Looked::with(alloc, plan, &tables)
     }
 
-    /// What its sweep is to do.
-    pub(crate) fn kind(&self) -> Kind {
-        self.case.kind
+    // Whether the sweep has ended behind a life. Refused where it can't be lived, or answers otherwise than it has to.
+    fn has_ended_with(&self, lived: Option<Lived>) -> Result<bool, Fail> {
+        let Some(lived) = lived else {
+            return Err(Fail::from("a checkpoint that doesn't fit"));
+        };
+        let ended = lived.turn == Turn::Ended;
+        let right = self.answer.is_none() || self.answer == lived.answer;
+        if ended && !right {
+            Err(Fail::from("another answer"))
+        } else {
+            Ok(ended)
+        }
     }
 
     /// Whether the sweep has ended behind at most so many turns more. Refused where it doesn't go on from its
@@ -108,13 +135,8 @@ impl Looked {
     ) -> Result<bool, Fail>
         requires { 16384 ≤ length room.old }
     {
-        let Some(lived) = live_on(&self.case, most, room, bench)? else {
-            return Err(Fail::from("a checkpoint that doesn't fit"));
-        };
-        let ended = lived.turn == Turn::Ended;
-        let right = self.answer.is_none() || self.answer == lived.answer;
-        ask_for(!ended || right, Wrong::Value)?;
-        Ok(ended)
+        let lived = live_on(self.plan, most, room, bench)?;
+        self.has_ended_with(lived)
     }
 
     // Refuses a checkpoint that doesn't stand for an operation on the tables.
@@ -127,39 +149,45 @@ impl Looked {
         bench: &Bench,
     ) -> Result<(), Wrong> {
         let task = TopDownTask {
-            variables: self.case.variables(),
+            variables: self.plan.variables(),
             meant,
             of_step,
-            third: self.case.third(),
+            third: self.plan.kind.third(),
         };
         let operands = self.nodes.operands();
-        let wanted = self.case.wanted.as_slice();
+        let wanted = self.wanted.as_slice();
         check_top_down(alloc, &task, operands, wanted, point, bench)
     }
 
     // Refuses a checkpoint that doesn't stand for the reduction of the arcs.
     fn check_reduction(&self, alloc: Global, point: Point<'_>, bench: &Bench) -> Result<(), Wrong> {
-        let n = self.case.variables();
-        let arcs = self.lists.arcs();
-        let bytes = nodes_in(bench.file(FIRST));
-        check_reduced(alloc, n, arcs, bytes, &self.nodes.first, point, bench)
+        let diagram = Diagram {
+            variables: self.plan.variables(),
+            arcs: self.lists.arcs(),
+            canon: &self.nodes.first,
+        };
+        check_reduced(alloc, diagram, nodes_in(bench.file(FIRST)), point, bench)
     }
 
     // Refuses a checkpoint that doesn't stand for the answer of a comparison.
     fn check_comparison(&self, point: Point<'_>, bench: &Bench) -> Result<(), Wrong> {
+        let Some(wanted) = self.answer else {
+            return Err(Wrong::Missing);
+        };
         let first = nodes_in(bench.file(FIRST));
         let second = nodes_in(bench.file(SECOND));
-        let wanted = self.answer.ok_or(Wrong::Missing)?;
-        check_same(self.case.variables(), first, second, wanted, point)
+        check_same(self.plan.variables(), first, second, wanted, point)
     }
 
     // The same of an evaluation.
     fn check_evaluation(&self, place: usize, point: Point<'_>) -> Result<(), Wrong> {
+        let Some(wanted) = self.answer else {
+            return Err(Wrong::Missing);
+        };
         let at = Assignment {
-            variables: self.case.variables(),
+            variables: self.plan.variables(),
             place,
         };
-        let wanted = self.answer.ok_or(Wrong::Missing)?;
         check_value(&self.nodes.first, at, wanted, point)
     }
 
@@ -170,10 +198,10 @@ impl Looked {
         point: Point<'_>,
         bench: &Bench,
     ) -> Result<(), Wrong> {
-        if let Some((meant, of_step)) = self.case.saved_operation() {
+        if let Some((meant, of_step)) = self.plan.kind.saved_operation() {
             return self.check_operation(alloc, meant, of_step, point, bench);
         }
-        match self.case.kind {
+        match self.plan.kind {
             Kind::Reduction(_) => self.check_reduction(alloc, point, bench),
             Kind::Comparison(_) => self.check_comparison(point, bench),
             Kind::Value(place) => self.check_evaluation(place, point),

@@ -26,25 +26,34 @@ fn left_by(bench: Bench, life: u64) -> Result<Bench, AllocError> {
     }
 }
 
-// The same, once its last checkpoint is looked at.
-fn looked_at(alloc: Global, looked: &Looked, bench: Bench, life: u64) -> Result<Bench, Fail> {
-    let bench = left_by(bench, life)?;
-    looked.look(alloc, &bench)?;
-    Ok(bench)
-}
-
-// Looks at each checkpoint of a sweep that is saved and rebuilt behind every few turns, and answers how many they are.
-fn look_at(alloc: Global, plan: Plan, every: u64, room: &mut [Rec]) -> Result<u64, Fail>
+// Looks at each checkpoint of a sweep that is saved and rebuilt behind every few turns, from the folder on in which it
+// begins, and answers how many they are.
+fn look_at_lives(
+    alloc: Global,
+    looked: &Looked,
+    begun: Bench,
+    every: u64,
+    room: &mut [Rec],
+) -> Result<u64, Fail>
     requires { 16384 ≤ length room.old }
 {
-    let (looked, mut bench) = Looked::of(alloc, plan)?;
+    let mut bench = begun;
     for life in 0..MOST_LIVES {
         if looked.has_ended(every, room, &mut bench)? {
             return Ok(life);
         }
-        bench = looked_at(alloc, &looked, bench, life)?;
+        bench = left_by(bench, life)?;
+        looked.look(alloc, &bench)?;
     }
     Err(Fail::from("no end"))
+}
+
+// The same of the sweep of a plan.
+fn look_at(alloc: Global, plan: Plan, every: u64, room: &mut [Rec]) -> Result<u64, Fail>
+    requires { 16384 ≤ length room.old }
+{
+    let (looked, bench) = Looked::of(alloc, plan)?;
+    look_at_lives(alloc, &looked, bench, every, room)
 }
 
 /// Sweeps of some kinds on tables of some numbers of variables, by so many seeds; and how many checkpoints they have at
@@ -417,9 +426,9 @@ const ROWS: &[Row] = &[
 ];
 
 // The first row of which fewer checkpoints were looked at than it has to have, and how many.
-fn first_short(alloc: Global) -> Result<Option<(&'static str, u64)>, Fail> {
-    let mut records = vec![in alloc; EMPTY; room_len(0)]?;
-    let room = records.as_mut_slice();
+fn first_short_in(alloc: Global, room: &mut [Rec]) -> Result<Option<(&'static str, u64)>, Fail>
+    requires { 16384 ≤ length room.old }
+{
     for row in ROWS {
         let points = look_at_row(alloc, row, room)?;
         if points < row.least {
@@ -427,6 +436,12 @@ fn first_short(alloc: Global) -> Result<Option<(&'static str, u64)>, Fail> {
         }
     }
     Ok(None)
+}
+
+// The same in a room of its own.
+fn first_short(alloc: Global) -> Result<Option<(&'static str, u64)>, Fail> {
+    let mut records = vec![in alloc; EMPTY; room_len(0)]?;
+    first_short_in(alloc, records.as_mut_slice())
 }
 
 #[test]

@@ -5,9 +5,8 @@ use crate::asked::Meant;
 use crate::cases::{Kind, Other, Plan};
 use crate::looked::Looked;
 use crate::shapes::Shape;
-use crate::words::{Point, SLOTS, flip};
+use crate::words::{Point, SLOTS, Wrong, copy_of, flip, flip_byte};
 use case_lives::{EMPTY, ENDS, INNER, MADE, OUT, STEP, room_len};
-use case_tables::put_bytes;
 use rec_words::Rec;
 use shelf_memory::Bench;
 use shelf_model::FileNo;
@@ -17,31 +16,34 @@ use std::test::Fail;
 /// Each sweep here ends within fewer lives.
 const MOST_LIVES: u64 = 500;
 
-// Whether a word that a sweep keeps may be another one.
+// The places of the words that a sweep keeps and that may be others.
 //
 // Of a sweep from the root down fewer nodes at hand may have been read, which are then read again, and the last ask
 // that was taken may be an earlier one. Of a reduction the level may be one that has no arcs, the root's final pointer
 // anything until its level is finished, the last arc that was taken an earlier one, and that names are forwarded means
 // nothing where there are none. How far files were read means nothing once the answer of a comparison is known. More
 // nodes of an evaluation may be given than it needs. Pieces that the file of a copy doesn't have may stand.
-fn may_change(kind: Kind, place: usize, point: Point<'_>) -> bool {
+fn spare_words(kind: Kind, point: Point<'_>) -> &'static [usize] {
     match kind {
-        Kind::Own(_) | Kind::OfStep(_) | Kind::Implication(_) => match place {
-            4 | 5 | 8 | 9 | 12 | 13 | 31..=39 => true,
-            _ => false,
-        },
-        Kind::Reduction(_) => match place {
-            1 | 3 | 24 | 27..=30 => true,
-            _ => false,
-        },
-        Kind::Comparison(_) => match place {
-            8 => true,
-            3 | 6 | 7 => point.has(8),
-            _ => false,
-        },
-        Kind::Value(_) => place == 4 || place == 9,
-        Kind::Copy(_) => place == 5,
+        Kind::Own(_) | Kind::OfStep(_) | Kind::Implication(_) => {
+            &[4, 5, 8, 9, 12, 13, 31, 32, 33, 34, 35, 36, 37, 38, 39]
+        }
+        Kind::Reduction(_) => &[1, 3, 24, 27, 28, 29, 30],
+        Kind::Comparison(_) if point.has(8) => &[3, 6, 7, 8],
+        Kind::Comparison(_) => &[8],
+        Kind::Value(_) => &[4, 9],
+        Kind::Copy(_) => &[5],
     }
+}
+
+// Whether a place is one of these.
+fn is_among(place: usize, places: &[usize]) -> bool {
+    for one in places {
+        if *one == place {
+            return true;
+        }
+    }
+    false
 }
 
 /// How many changes were made, how many of them weren't noticed, and the place of the last of these.
@@ -72,17 +74,67 @@ struct Bytes {
     count: u64,
 }
 
-// A byte of each of the first arcs of a file, so many.
-fn in_arcs(file: FileNo, first: usize, count: u64) -> Bytes {
+// Puts a file of these bytes; refused where they are too many for one.
+fn put_file(bench: &mut Bench, file: FileNo, bytes: &[u8]) -> Result<(), Wrong> {
+    if bytes.len() > 1 << 40 {
+        return Err(Wrong::Memory);
+    }
+    match bench.put_file(file, bytes) {
+        Ok(()) => Ok(()),
+        Err(_failed) => Err(Wrong::Memory),
+    }
+}
+
+/// No bytes.
+const NO_BYTES: Bytes = Bytes {
+    file: MADE,
+    first: 0,
+    distance: 0,
+    count: 0,
+};
+
+// Those of a file: so many, from one on with such a distance.
+fn bytes_in(file: FileNo, first: usize, distance: usize, count: u64) -> Bytes {
     Bytes {
         file,
         first,
-        distance: 16,
+        distance,
         count,
     }
 }
 
-/// A case whose checkpoints are changed.
+// The bytes of its files that are changed: sources of arcs, and truth values that arcs lead to; of a reduction nodes that
+// are kept; and of a copy what was made.
+fn bytes_of(kind: Kind, point: Point<'_>) -> [Bytes; 3] {
+    match kind {
+        Kind::Own(_) | Kind::OfStep(_) | Kind::Implication(_) => [
+            bytes_in(INNER, 7, 16, point.carried(16)),
+            bytes_in(ENDS, 7, 16, point.carried(19)),
+            bytes_in(ENDS, 15, 16, point.carried(19)),
+        ],
+        Kind::Reduction(_) => {
+            let kept = bytes_in(OUT, 23, 24, point.carried(12));
+            [kept, NO_BYTES, NO_BYTES]
+        }
+        Kind::Copy(_) => {
+            let made = bytes_in(MADE, 0, 512, point.carried(6) / 512);
+            [made, NO_BYTES, NO_BYTES]
+        }
+        _ => [NO_BYTES; 3],
+    }
+}
+
+// The tables in whose runs a byte of each record is changed, with its place: that of the asker in the queue; of a
+// reduction those of final pointers in the queue, in rows and in names.
+fn records_of(kind: Kind) -> &'static [(usize, usize)] {
+    match kind {
+        Kind::Own(_) | Kind::OfStep(_) | Kind::Implication(_) => &[(0, 63)],
+        Kind::Reduction(_) => &[(0, 23), (3, 7), (3, 15), (4, 15)],
+        _ => &[],
+    }
+}
+
+/// A plan whose checkpoints are changed.
 #[derive(Clone, Copy)]
 struct Scene<'a> {
     alloc: Global,
@@ -101,8 +153,9 @@ impl<'a> Scene<'a> {
 
     // Changes the first words that a sweep keeps.
     fn change_words(&self, bytes: &mut [u8], bench: &Bench, tally: &mut Tally) {
+        let spare = spare_words(self.looked.plan.kind, Point { bytes: &*bytes });
         for place in 0..60usize {
-            if !may_change(self.looked.kind(), place, Point { bytes: &*bytes }) {
+            if !is_among(place, spare) {
                 self.change_word(place.saturating_add(6), bytes, bench, tally);
             }
         }
@@ -122,7 +175,7 @@ impl<'a> Scene<'a> {
 
     // Changes those of the tables whose records count.
     fn change_tables(&self, bytes: &mut [u8], bench: &Bench, tally: &mut Tally) {
-        let tables: &[usize] = match self.looked.kind() {
+        let tables: &[usize] = match self.looked.plan.kind {
             Kind::Own(_) | Kind::OfStep(_) | Kind::Implication(_) => &[0],
             Kind::Reduction(_) => &[0, 3],
             _ => &[],
@@ -133,25 +186,30 @@ impl<'a> Scene<'a> {
     }
 
     // Changes a byte of a file.
-    fn flip_byte(&self, file: FileNo, at: usize, bench: &mut Bench) -> Result<(), Fail> {
-        let mut changed = Vec::from_slice(self.alloc, bench.file(file))?;
-        if let Some(byte) = changed.as_mut_slice().get_mut(at) {
-            *byte ^= 1;
-        }
-        put_bytes(bench, file, changed.as_slice())
+    fn flip_byte(&self, file: FileNo, at: usize, bench: &mut Bench) -> Result<(), Wrong> {
+        let mut changed = copy_of(self.alloc, bench.file(file))?;
+        flip_byte(changed.as_mut_slice(), at);
+        put_file(bench, file, changed.as_slice())
     }
 
     // Changes bytes of a file, one at a time. It is as before then.
-    fn change_bytes(&self, bytes: Bytes, bench: &mut Bench, tally: &mut Tally) -> Result<(), Fail> {
+    fn change_bytes(
+        &self,
+        bytes: Bytes,
+        bench: &mut Bench,
+        tally: &mut Tally,
+    ) -> Result<(), Wrong> {
         let mut at = bytes.first;
+        let mut all = Ok(());
         for _change in 0..bytes.count {
-            self.flip_byte(bytes.file, at, bench)?;
+            let changed = self.flip_byte(bytes.file, at, bench);
             let checked = self.looked.look(self.alloc, bench);
             tally.note(at, checked.is_err());
-            self.flip_byte(bytes.file, at, bench)?;
+            let back = self.flip_byte(bytes.file, at, bench);
+            all = all.and(changed).and(back);
             at = at.saturating_add(bytes.distance);
         }
-        Ok(())
+        all
     }
 
     // Changes that byte of each record in the runs of a table that wasn't read.
@@ -162,57 +220,19 @@ impl<'a> Scene<'a> {
         point: Point<'_>,
         bench: &mut Bench,
         tally: &mut Tally,
-    ) -> Result<(), Fail> {
+    ) -> Result<(), Wrong> {
+        let mut all = Ok(());
         for slot in 0..SLOTS {
             let run = point.slot(table, slot);
             let file = FileNo {
                 step: STEP,
                 part: run.part,
             };
-            let bytes = Bytes {
-                file,
-                first: (run.next as usize).saturating_mul(64).saturating_add(byte),
-                distance: 64,
-                count: run.end.saturating_sub(run.next),
-            };
-            self.change_bytes(bytes, bench, tally)?;
+            let first = (run.next as usize).saturating_mul(64).saturating_add(byte);
+            let bytes = bytes_in(file, first, 64, run.end.saturating_sub(run.next));
+            all = all.and(self.change_bytes(bytes, bench, tally));
         }
-        Ok(())
-    }
-
-    // Changes askers in the queue, sources of arcs, and truth values that arcs lead to.
-    fn change_arcs(
-        &self,
-        point: Point<'_>,
-        bench: &mut Bench,
-        tally: &mut Tally,
-    ) -> Result<(), Fail> {
-        let sources = in_arcs(INNER, 7, point.carried(16));
-        let others = in_arcs(ENDS, 7, point.carried(19));
-        let values = in_arcs(ENDS, 15, point.carried(19));
-        for bytes in [sources, others, values] {
-            self.change_bytes(bytes, bench, tally)?;
-        }
-        self.change_records(0, 63, point, bench, tally)
-    }
-
-    // Changes nodes that are kept, and final pointers in the queue, in rows and in names.
-    fn change_rows(
-        &self,
-        point: Point<'_>,
-        bench: &mut Bench,
-        tally: &mut Tally,
-    ) -> Result<(), Fail> {
-        let kept = Bytes {
-            file: OUT,
-            first: 23,
-            distance: 24,
-            count: point.carried(12),
-        };
-        for (table, byte) in [(0, 23), (3, 7), (3, 15), (4, 15)] {
-            self.change_records(table, byte, point, bench, tally)?;
-        }
-        self.change_bytes(kept, bench, tally)
+        all
     }
 
     // Changes what stands in the files of a checkpoint.
@@ -221,28 +241,20 @@ impl<'a> Scene<'a> {
         point: Point<'_>,
         bench: &mut Bench,
         tally: &mut Tally,
-    ) -> Result<(), Fail> {
-        match self.looked.kind() {
-            Kind::Own(_) | Kind::OfStep(_) | Kind::Implication(_) => {
-                self.change_arcs(point, bench, tally)
-            }
-            Kind::Reduction(_) => self.change_rows(point, bench, tally),
-            Kind::Copy(_) => {
-                let made = Bytes {
-                    file: MADE,
-                    first: 0,
-                    distance: 512,
-                    count: point.carried(6) / 512,
-                };
-                self.change_bytes(made, bench, tally)
-            }
-            _ => Ok(()),
+    ) -> Result<(), Wrong> {
+        let mut all = Ok(());
+        for bytes in bytes_of(self.looked.plan.kind, point) {
+            all = all.and(self.change_bytes(bytes, bench, tally));
         }
+        for (table, byte) in records_of(self.looked.plan.kind) {
+            all = all.and(self.change_records(*table, *byte, point, bench, tally));
+        }
+        all
     }
 
     // Changes the last checkpoint and its files.
-    fn change_all(&self, bench: &mut Bench, tally: &mut Tally) -> Result<(), Fail> {
-        let mut copy = Vec::from_slice(self.alloc, Point::last_of(bench)?.bytes)?;
+    fn change_all(&self, bench: &mut Bench, tally: &mut Tally) -> Result<(), Wrong> {
+        let mut copy = copy_of(self.alloc, Point::last_of(bench)?.bytes)?;
         self.change_words(copy.as_mut_slice(), bench, tally);
         self.change_tables(copy.as_mut_slice(), bench, tally);
         let point = Point {
@@ -349,9 +361,12 @@ const ROWS: &[Row] = &[
 
 // The first row of which a change wasn't noticed, or fewer were made than it has to have: how many were made, how many
 // weren't noticed, and the place of the last of these.
-fn first_short(alloc: Global) -> Result<Option<(&'static str, u64, u64, usize)>, Fail> {
-    let mut records = vec![in alloc; EMPTY; room_len(0)]?;
-    let room = records.as_mut_slice();
+fn first_short_in(
+    alloc: Global,
+    room: &mut [Rec],
+) -> Result<Option<(&'static str, u64, u64, usize)>, Fail>
+    requires { 16384 ≤ length room.old }
+{
     for row in ROWS {
         let tally = change_row(alloc, row, room)?;
         if tally.missed > 0 || tally.changes < row.least {
@@ -359,6 +374,12 @@ fn first_short(alloc: Global) -> Result<Option<(&'static str, u64, u64, usize)>,
         }
     }
     Ok(None)
+}
+
+// The same in a room of its own.
+fn first_short(alloc: Global) -> Result<Option<(&'static str, u64, u64, usize)>, Fail> {
+    let mut records = vec![in alloc; EMPTY; room_len(0)]?;
+    first_short_in(alloc, records.as_mut_slice())
 }
 
 #[test]

@@ -42,25 +42,24 @@ const ROOT: u64 = 0;
 /// A diagram that isn't reduced, by all its arcs, and the canonical one of its table.
 #[derive(Clone, Copy)]
 pub(crate) struct Diagram<'a> {
-    variables: u32,
-    arcs: Arcs<'a>,
-    canon: &'a NodeList,
+    pub(crate) variables: u32,
+    pub(crate) arcs: Arcs<'a>,
+    pub(crate) canon: &'a NodeList,
 }
 
 impl<'a> Diagram<'a> {
     // Refuses a canonical pointer that isn't that of the function of a pointer of the diagram.
     fn check_final(&self, canonical: u64, pointer: u64) -> Result<(), Wrong> {
+        let mut all = Ok(());
         for place in 0..1usize << self.variables.min(20) {
             let at = Assignment {
                 variables: self.variables,
                 place,
             };
-            check_equal(
-                self.canon.value(canonical, at),
-                self.arcs.value(pointer, at),
-            )?;
+            let value = self.arcs.value(pointer, at);
+            all = all.and(check_equal(self.canon.value(canonical, at), value));
         }
-        Ok(())
+        all
     }
 
     // The same for the target of a side.
@@ -134,10 +133,14 @@ struct Lists<'a> {
 
 impl<'a> Lists<'a> {
     fn of(alloc: Global, point: Point<'_>, bench: &'a Bench) -> Result<Lists<'a>, Wrong> {
-        let queue = point.waiting(alloc, 0, ARC, bench)?;
-        let rows = point.waiting(alloc, 3, ROW, bench)?;
-        let names = point.waiting(alloc, 4, NAME, bench)?;
-        Ok(Lists { queue, rows, names })
+        let mut queue = Vec::new(alloc);
+        let mut rows = Vec::new(alloc);
+        let mut names = Vec::new(alloc);
+        point
+            .add_waiting(0, ARC, bench, &mut queue)
+            .and(point.add_waiting(3, ROW, bench, &mut rows))
+            .and(point.add_waiting(4, NAME, bench, &mut names))
+            .and(Ok(Lists { queue, rows, names }))
     }
 }
 
@@ -169,8 +172,7 @@ fn check_task(n: u32, point: Point<'_>) -> Result<(), Wrong> {
         .and(point.check_word(0, u64::from(n)))
         .and(point.check_word(2, ROOT))
         .and(point.check_word(25, 0))
-        .and(point.check_no_runs(1))
-        .and(point.check_no_runs(2))
+        .and(point.check_no_runs(1, 2))
 }
 
 // How many arcs of the queue are of that side.
@@ -298,13 +300,14 @@ impl<'a> Picture<'a> {
     // Refuses arcs of the queue that aren't in the diagram, have another pointer than the final one of their target, or
     // come before the last one that was taken.
     fn check_queue(&self, last: Option<Record<'_>>) -> Result<(), Wrong> {
+        let mut all = Ok(());
         for record in self.queue {
             let (pointer, side) = (record.word(2), queued_side(*record));
-            ask_for(may_follow(last, *record), Wrong::Waiting).and(
-                self.diagram.check_side(pointer, side),
-            )?;
+            all = all
+                .and(ask_for(may_follow(last, *record), Wrong::Waiting))
+                .and(self.diagram.check_side(pointer, side));
         }
-        Ok(())
+        all
     }
 
     // Whether a source is of the level at hand and closed once.
@@ -314,13 +317,14 @@ impl<'a> Picture<'a> {
 
     // Refuses names that aren't of the level at hand, or have another pointer than the final one of their source.
     fn check_names(&self) -> Result<(), Wrong> {
+        let mut all = Ok(());
         for name in self.names {
             let source = counted_down(*name);
-            ask_for(self.is_closed(source), Wrong::Waiting).and(
-                self.diagram.check_final(name.word(1), source),
-            )?;
+            all = all
+                .and(ask_for(self.is_closed(source), Wrong::Waiting))
+                .and(self.diagram.check_final(name.word(1), source));
         }
-        Ok(())
+        all
     }
 
     // Whether a row may wait for its number: it comes no earlier than the last one that got one.
@@ -355,10 +359,11 @@ impl<'a> Picture<'a> {
 
     // Refuses rows of which one is to be refused.
     fn check_rows(&self) -> Result<(), Wrong> {
+        let mut all = Ok(());
         for row in self.rows {
-            self.check_row(*row)?;
+            all = all.and(self.check_row(*row));
         }
-        Ok(())
+        all
     }
 
     // Refuses a source at hand that isn't of the level, or has another pointer than the final one of a side.
@@ -451,26 +456,20 @@ fn check_nodes(kept: u64, made: &[u8], canon: &[u8]) -> Result<(), Wrong> {
     ask_for(nodes.is_some() && nodes == canon.get(0..end), Wrong::Nodes)
 }
 
-/// Refuses a checkpoint that doesn't stand for the reduction of arcs of n variables, whose canonical file has these
-/// bytes and nodes.
+/// Refuses a checkpoint that doesn't stand for the reduction of a diagram whose canonical file has these bytes.
 pub(crate) fn check_reduced(
     alloc: Global,
-    n: u32,
-    arcs: Arcs<'_>,
+    diagram: Diagram<'_>,
     bytes: &[u8],
-    canon: &NodeList,
     point: Point<'_>,
     bench: &Bench,
 ) -> Result<(), Wrong> {
-    check_task(n, point).and(check_nodes(point.carried(12), bench.file(OUT), bytes))?;
+    let nodes = check_nodes(point.carried(12), bench.file(OUT), bytes);
+    check_task(diagram.variables, point).and(nodes)?;
     let doing = doing_of(point)?;
     let lists = Lists::of(alloc, point, bench)?;
     let picture = Picture {
-        diagram: Diagram {
-            variables: n,
-            arcs,
-            canon,
-        },
+        diagram,
         level: point.carried(1),
         doing,
         queue: lists.queue.as_slice(),

@@ -28,8 +28,8 @@ pub(crate) fn value_at(table: &[bool], place: usize) -> bool {
 // level is counted through all its nodes, two for each.
 fn push_arc(into: &mut Vec<u8>, level: u64, side: u64, target: u64) -> Result<(), AllocError> {
     let source = first_of(level).wrapping_add(side / 2) | (side & 1) << 63;
-    into.extend_from_slice(&source.to_be_bytes())?;
-    into.extend_from_slice(&target.to_be_bytes())
+    into.extend_from_slice(&source.to_be_bytes())
+        .and(into.extend_from_slice(&target.to_be_bytes()))
 }
 
 impl Shape {
@@ -65,34 +65,37 @@ impl Shape {
     // Puts the arcs that lead to the nodes of a level. As the sides above ascend, so do the nodes where they lead.
     fn push_level(self, level: u64, into: &mut Vec<u8>) -> Result<(), AllocError> {
         let above = level.saturating_sub(1);
+        let mut all = Ok(());
         for side in 0..self.sides(above) {
             let target = first_of(level).wrapping_add(self.below(side));
-            push_arc(into, above, side, target)?;
+            all = all.and(push_arc(into, above, side, target));
         }
-        Ok(())
+        all
     }
 
     /// The arcs to nodes of n levels, in the order of their file.
     pub(crate) fn inner(self, alloc: Global, n: u32) -> Result<Vec<u8>, AllocError> {
         let mut bytes = Vec::new(alloc);
+        let mut all = Ok(());
         for level in 1..u64::from(n) {
-            self.push_level(level, &mut bytes)?;
+            all = all.and(self.push_level(level, &mut bytes));
         }
-        Ok(bytes)
+        all.and(Ok(bytes))
     }
 
     /// Those from the last level to the values of a table.
     pub(crate) fn ends(self, alloc: Global, n: u32, table: &[bool]) -> Result<Vec<u8>, AllocError> {
         let mut bytes = Vec::new(alloc);
         let last = u64::from(n).saturating_sub(1);
+        let mut all = Ok(());
         for side in 0..self.sides(last) {
             let place = match self {
                 Shape::Tree => side as usize,
                 Shape::Counting => with_ones(self.below(side)),
             };
             let value = u64::from(value_at(table, place));
-            push_arc(&mut bytes, last, side, NO | value)?;
+            all = all.and(push_arc(&mut bytes, last, side, NO | value));
         }
-        Ok(bytes)
+        all.and(Ok(bytes))
     }
 }

@@ -50,13 +50,24 @@ pub(crate) fn check_equal(
     one: Result<bool, Wrong>,
     other: Result<bool, Wrong>,
 ) -> Result<(), Wrong> {
-    ask_for(one? == other?, Wrong::Value)
+    match (one, other) {
+        (Ok(one), Ok(other)) => ask_for(one == other, Wrong::Value),
+        (Err(wrong), _) | (_, Err(wrong)) => Err(wrong),
+    }
 }
 
 /// Puts an item behind others.
 pub(crate) fn put<T: Drop>(into: &mut Vec<T>, item: T) -> Result<(), Wrong> {
     match into.push(item) {
         Ok(()) => Ok(()),
+        Err(_failed) => Err(Wrong::Memory),
+    }
+}
+
+/// A copy of bytes.
+pub(crate) fn copy_of(alloc: Global, bytes: &[u8]) -> Result<Vec<u8>, Wrong> {
+    match Vec::from_slice(alloc, bytes) {
+        Ok(copy) => Ok(copy),
         Err(_failed) => Err(Wrong::Memory),
     }
 }
@@ -90,11 +101,16 @@ pub(crate) fn word_in(bytes: &[u8], place: usize) -> u64 {
     u64::from_be_bytes(eight)
 }
 
-/// Makes the word of bytes at a place one with another last digit.
-pub(crate) fn flip(bytes: &mut [u8], place: usize) {
-    if let Some(byte) = bytes.get_mut(place.saturating_mul(8).saturating_add(7)) {
+/// Makes a byte one with another last digit.
+pub(crate) fn flip_byte(bytes: &mut [u8], at: usize) {
+    if let Some(byte) = bytes.get_mut(at) {
         *byte ^= 1;
     }
+}
+
+/// The same of the word of bytes at a place.
+pub(crate) fn flip(bytes: &mut [u8], place: usize) {
+    flip_byte(bytes, place.saturating_mul(8).saturating_add(7));
 }
 
 /// A record of a run, or some words of a checkpoint, by their bytes.
@@ -192,7 +208,9 @@ impl<'a> Point<'a> {
     // Refuses it where it names another file from one of these places on.
     fn check_names(&self, files: &[(usize, FileNo)]) -> Result<(), Wrong> {
         for (place, file) in files {
-            ask_for(self.names(*place, *file), Wrong::Task)?;
+            if !self.names(*place, *file) {
+                return Err(Wrong::Task);
+            }
         }
         Ok(())
     }
@@ -214,10 +232,11 @@ impl<'a> Point<'a> {
         ask_for(self.is_zero(front, count), Wrong::Unused)
     }
 
-    /// Refuses it where a run stands in a table.
-    pub(crate) fn check_no_runs(&self, table: usize) -> Result<(), Wrong> {
-        let front = table.saturating_mul(TABLE_WORDS).saturating_add(TABLES_AT);
-        ask_for(self.is_zero(front, TABLE_WORDS), Wrong::Run)
+    /// Refuses it where a run stands in one of so many tables from one on.
+    pub(crate) fn check_no_runs(&self, first: usize, tables: usize) -> Result<(), Wrong> {
+        let front = first.saturating_mul(TABLE_WORDS).saturating_add(TABLES_AT);
+        let count = tables.saturating_mul(TABLE_WORDS);
+        ask_for(self.is_zero(front, count), Wrong::Run)
     }
 
     /// Whether the words behind that one are there.
@@ -234,7 +253,9 @@ impl<'a> Point<'a> {
     // Refuses it where one of these words isn't 1, and it and the words behind it, so many, aren't 0.
     fn check_flags(&self, flags: &[(usize, usize)]) -> Result<(), Wrong> {
         for (flag, words) in flags {
-            ask_for(self.is_flag(*flag, *words), Wrong::Flag)?;
+            if !self.is_flag(*flag, *words) {
+                return Err(Wrong::Flag);
+            }
         }
         Ok(())
     }
@@ -303,31 +324,32 @@ impl<'a> Point<'a> {
         }
     }
 
-    /// What waits in the runs of a table, which ascend by so many words: the records from the next one of each on.
-    pub(crate) fn waiting<'b>(
+    /// Puts behind others what waits in the runs of a table, which ascend by so many words: the records from the next
+    /// one of each on.
+    pub(crate) fn add_waiting<'b>(
         &self,
-        alloc: Global,
         table: usize,
         width: usize,
         bench: &'b Bench,
-    ) -> Result<Vec<Record<'b>>, Wrong> {
-        let mut records = Vec::new(alloc);
+        into: &mut Vec<Record<'b>>,
+    ) -> Result<(), Wrong> {
+        let mut all = Ok(());
         for slot in 0..SLOTS {
-            self.add_run(self.slot(table, slot), width, bench, &mut records)?;
+            all = all.and(self.add_run(self.slot(table, slot), width, bench, into));
         }
-        Ok(records)
+        all
     }
 }
 
 // Puts records behind others, which ascend by so many words.
 fn add_all<'b>(bytes: &'b [u8], width: usize, into: &mut Vec<Record<'b>>) -> Result<(), Wrong> {
     let mut last = Record { bytes: &[] };
-    let mut ascend = true;
+    let mut all = Ok(());
     for bytes in bytes.chunks_exact(RECORD) {
         let record = Record { bytes };
-        ascend = ascend && !record.precedes(last, width);
-        put(into, record)?;
+        let ascends = ask_for(!record.precedes(last, width), Wrong::Run);
+        all = all.and(ascends).and(put(into, record));
         last = record;
     }
-    ask_for(ascend, Wrong::Run)
+    all
 }
