@@ -103,8 +103,8 @@ fn bytes_in(file: FileNo, first: usize, distance: usize, count: u64) -> Bytes {
     }
 }
 
-// The bytes of its files that are changed: sources of arcs, and truth values that arcs lead to; of a reduction nodes that
-// are kept; and of a copy what was made.
+// The bytes that are changed in the files of a checkpoint: of sources of arcs and of truth values that arcs lead to; of
+// nodes that a reduction keeps; and of what a copy made.
 fn bytes_of(kind: Kind, point: Point<'_>) -> [Bytes; 3] {
     match kind {
         Kind::Own(_) | Kind::OfStep(_) | Kind::Implication(_) => [
