@@ -23,7 +23,13 @@ fn operators_are_made(given: &mut Given, n: u32) -> Result<bool, Fail> {
     for digits in 0..16 {
         given.take_seed(n, 0)?;
         let task = operator_on(digits, TWO);
-        let made = made_now(task, ENOUGH, given.n, given.room.as_mut_slice(), &mut given.bench)?;
+        let made = made_now(
+            task,
+            ENOUGH,
+            given.n,
+            given.room.as_mut_slice(),
+            &mut given.bench,
+        )?;
         let Some(made) = made else {
             return Ok(false);
         };
@@ -51,7 +57,13 @@ fn an_operator_of_few_nodes_is_made_at_once(rt: HostRuntime) -> Result<(), Fail>
 
 // Whether nothing is made, and the step's node file stays empty.
 fn makes_nothing(given: &mut Given, task: Task, most: AtMost) -> Result<bool, Fail> {
-    let made = made_now(task, most, given.n, given.room.as_mut_slice(), &mut given.bench)?;
+    let made = made_now(
+        task,
+        most,
+        given.n,
+        given.room.as_mut_slice(),
+        &mut given.bench,
+    )?;
     Ok(made.is_none() && given.bench.file(node_file(NUMBER)).is_empty())
 }
 
